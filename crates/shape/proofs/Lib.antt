@@ -1,0 +1,12 @@
+pub mod Amounts
+pub mod Bits
+pub mod Calendar
+pub mod Hex
+pub mod Loops
+pub mod Packing
+pub mod Parts
+pub mod Places
+pub mod ReadBack
+pub mod Settled
+pub mod Single
+pub mod Tests

@@ -1,0 +1,12 @@
+-- The code is the definition.
+use mathlib.Core.Path.{refl}
+use Rattle.shape.specs.Bytes.{isCapital}
+use Rattle.shape.proofs.byte.is_capital.Statement.{statement}
+use Rattle.shape.proofs.byte.is_capital.Tie as tie
+
+returns : tie.Need-returns
+unfolding isCapital
+returns c = refl
+
+pub is-capital-spec : {M : Type 1} → statement M
+is-capital-spec = tie.close (tie.spec returns)

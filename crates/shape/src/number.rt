@@ -1,0 +1,53 @@
+// Digits as numbers.
+use crate::byte::is_digit;
+ghost use mathlib.Core.Path.{_≡_};
+ghost use Prim.Native.Nat.{_≤_, _<_, _^_};
+ghost use lib.ListN.{length, getD};
+ghost use Rattle.shape.specs.Numbers.{digitValue, hexValue, decimal};
+
+// 0 for what stands before the digits, so that it is a number for every byte.
+pub fn digit_value(b: u8) -> u8
+    ensures { λ r. ⌜ r ≡ digitValue b ⌝ }
+{
+    if b < b'0' {
+        return 0;
+    }
+    b - b'0'
+}
+
+pub fn hex_value(b: u8) -> u8
+    ensures { λ r. ⌜ r ≡ hexValue b ⌝ }
+{
+    if is_digit(b) {
+        return digit_value(b);
+    }
+    if b < 87 {
+        return 0;
+    }
+    b - 87
+}
+
+// The number that digits write. Fourteen of them leave room for a factor of a hundred.
+pub fn decimal(s: &[u8]) -> u64
+    requires { ⌜ length (now s) ≤ 14 ⌝ }
+    ensures { λ r. ⌜ r ≡ decimal (now (s .entry)) ⌝ }
+    ensures { λ r. ⌜ r < 10 ^ 16 ⌝ }
+{
+    let mut n: u64 = 0;
+    let mut i = 0;
+    while i < s.len() {
+        n = n * 10 + digit_value(s[i]) as u64;
+        i += 1;
+    }
+    n
+}
+
+// The byte at a place, or 0 past the end.
+pub fn peek(s: &[u8], i: usize) -> u8
+    ensures { λ r. ⌜ r ≡ getD (now (s .entry)) i 0 ⌝ }
+{
+    if i < s.len() {
+        return s[i];
+    }
+    0
+}

@@ -1,0 +1,119 @@
+// Identifiers and UETRs as whole numbers, for storing and comparing. All zeros stand for no text.
+use crate::field::is_identifier;
+use crate::number::hex_value;
+use crate::number::peek;
+use crate::pattern::matches;
+ghost use mathlib.Core.Path.{_≡_};
+ghost use Prim.Native.Nat.{_<_, _≤_, _+_, _^_};
+ghost use lib.ListN.{length};
+ghost use Rattle.shape.specs.Stored.{sevenFrom, identifierOf, sameIdentifier, fourFrom, groups, isUetr, uetrOf, sameUetr};
+
+// The 35 bytes of an identifier, seven to a number.
+pub struct Identifier {
+    pub first: u64,
+    pub second: u64,
+    pub third: u64,
+    pub fourth: u64,
+    pub fifth: u64,
+}
+
+// The 32 hexadecimal digits of a UETR, sixteen to a number.
+pub struct Uetr {
+    pub high: u64,
+    pub low: u64,
+}
+
+// Seven bytes from a place on.
+fn seven_from(s: &[u8], i: usize) -> u64
+    requires { ⌜ i ≤ 28 ⌝ }
+    ensures { λ r. ⌜ r ≡ sevenFrom (now (s .entry)) i ⌝ }
+{
+    let top = (peek(s, i) as u64 * 256 + peek(s, i + 1) as u64) * 256 + peek(s, i + 2) as u64;
+    let middle = (top * 256 + peek(s, i + 3) as u64) * 256 + peek(s, i + 4) as u64;
+    (middle * 256 + peek(s, i + 5) as u64) * 256 + peek(s, i + 6) as u64
+}
+
+// An identifier in its stored form.
+pub fn identifier_of(s: &[u8]) -> Identifier
+    ensures { λ r. ⌜ r ≡ identifierOf (now (s .entry)) ⌝ }
+{
+    if is_identifier(s) {
+        return Identifier {
+            first: seven_from(s, 0),
+            second: seven_from(s, 7),
+            third: seven_from(s, 14),
+            fourth: seven_from(s, 21),
+            fifth: seven_from(s, 28),
+        };
+    }
+    Identifier {
+        first: 0,
+        second: 0,
+        third: 0,
+        fourth: 0,
+        fifth: 0,
+    }
+}
+
+pub fn same_identifier(x: Identifier, y: Identifier) -> bool
+    ensures { λ r. ⌜ r ≡ sameIdentifier x y ⌝ }
+{
+    (x.first == y.first)
+        & (x.second == y.second)
+        & (x.third == y.third)
+        & (x.fourth == y.fourth)
+        & (x.fifth == y.fifth)
+}
+
+// Whether the text has the pattern of a UUID version 4 in small letters.
+pub fn is_uetr(s: &[u8]) -> bool
+    ensures { λ r. ⌜ r ≡ isUetr (now (s .entry)) ⌝ }
+{
+    matches(b"xxxxxxxx-xxxx-4xxx-yxxx-xxxxxxxxxxxx", s)
+}
+
+// Four hexadecimal digits from a place on.
+fn four_from(s: &[u8], i: usize) -> u64
+    requires { ⌜ i + 3 < length (now s) ⌝ }
+    ensures { λ r. ⌜ r ≡ fourFrom (now (s .entry)) i ⌝ }
+{
+    let top = hex_value(s[i]) as u64 * 16 + hex_value(s[i + 1]) as u64;
+    (top * 16 + hex_value(s[i + 2]) as u64) * 16 + hex_value(s[i + 3]) as u64
+}
+
+// Four groups as one number.
+fn groups(a: u64, b: u64, c: u64, d: u64) -> u64
+    requires { ⌜ (a < 2 ^ 16) × (b < 2 ^ 16) × (c < 2 ^ 16) × (d < 2 ^ 16) ⌝ }
+    ensures { λ r. ⌜ r ≡ groups a b c d ⌝ }
+{
+    ((a * 65536 + b) * 65536 + c) * 65536 + d
+}
+
+// A UETR in its stored form.
+pub fn uetr_of(s: &[u8]) -> Uetr
+    ensures { λ r. ⌜ r ≡ uetrOf (now (s .entry)) ⌝ }
+{
+    if is_uetr(s) {
+        return Uetr {
+            high: groups(
+                four_from(s, 0),
+                four_from(s, 4),
+                four_from(s, 9),
+                four_from(s, 14),
+            ),
+            low: groups(
+                four_from(s, 19),
+                four_from(s, 24),
+                four_from(s, 28),
+                four_from(s, 32),
+            ),
+        };
+    }
+    Uetr { high: 0, low: 0 }
+}
+
+pub fn same_uetr(x: Uetr, y: Uetr) -> bool
+    ensures { λ r. ⌜ r ≡ sameUetr x y ⌝ }
+{
+    (x.high == y.high) & (x.low == y.low)
+}
