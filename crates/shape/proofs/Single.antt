@@ -16,3 +16,12 @@ Settled n ps r Post =
 -- a contract that is an equation settles it
 pub by-equation : {A : Type 0} {x y z : A} → x ≡ z → y ≡ z → x ≡ y
 by-equation p q = p ∙ sym q
+
+-- the same where the function was lent what it may change: what stands there at exit is settled too
+abbrev pub SettledWith : (n : ℕ) (ps : List (PK n)) (r : RK n) → Out n ps r → (B : Type 0) → ((κs : Lfts n) → AtExit (endedOf n ps r) κs → B) → Type 0
+SettledWith n ps r Post B lent =
+    (κs : Lfts n) (a : Dens κs ps) (x y : resT r κs .Denot) (e f : AtExit (endedOf n ps r) κs)
+    → Post κs a x e → Post κs a y f → (x ≡ y) × (lent κs e ≡ lent κs f)
+
+pub by-equations : {A B : Type 0} {x y z : A} {u v w : B} → (x ≡ z) × (u ≡ w) → (y ≡ z) × (v ≡ w) → (x ≡ y) × (u ≡ v)
+by-equations p q = (by-equation (p .0) (q .0), by-equation (p .1) (q .1))

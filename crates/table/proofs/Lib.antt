@@ -1,2 +1,4 @@
 pub mod Lines
 pub mod Orders
+pub mod Rules
+pub mod Settled

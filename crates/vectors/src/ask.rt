@@ -1,0 +1,157 @@
+// What is asked of shape, remainder and table.
+use crate::words::number;
+use check::same;
+use libc::STDOUT_FILENO;
+use remainder::Mod97;
+use shape::field::System;
+use shape::value::Value;
+use table::Kind;
+
+pub fn put(text: &[u8]) {
+    io::write_all(STDOUT_FILENO, text);
+}
+
+pub fn put_number(n: u64) {
+    put(b" ");
+    io::print_decimal(STDOUT_FILENO, n);
+}
+
+fn put_value(v: Value) {
+    match v {
+        Value::Of(n) => put_number(n),
+        Value::None => put(b" none"),
+    }
+}
+
+fn put_test(holds: bool) {
+    if holds {
+        put(b" yes");
+    } else {
+        put(b" no");
+    }
+}
+
+// An IBAN's remainder, a code, a date with the day before, a time, an amount, a currency.
+pub fn numbers(word: &[u8], text: &[u8]) {
+    if same(word, b"iban") {
+        iban(text);
+        return;
+    }
+    if same(word, b"code") {
+        put_value(shape::field::code_of(text));
+        return;
+    }
+    if same(word, b"date") {
+        let n = number(text);
+        put_test(shape::date::is_date(n));
+        put_value(shape::date::day_before(n));
+        return;
+    }
+    if same(word, b"time") {
+        put_value(shape::date::time_of(text));
+        return;
+    }
+    if same(word, b"amount") {
+        put_value(shape::field::amount_of(text));
+        return;
+    }
+    if same(word, b"currency") {
+        put_value(shape::field::currency_of(text));
+        return;
+    }
+}
+
+fn iban(text: &[u8]) {
+    match remainder::remainder(text) {
+        Mod97::Of(n) => put_number(n),
+        Mod97::NoIban => put(b" none"),
+    }
+    put_test(shape::field::is_iban(text));
+}
+
+// A UETR and an identifier in their stored form, an account, a message identifier, S, the name of a message.
+pub fn identifiers(word: &[u8], text: &[u8]) {
+    if same(word, b"uetr") {
+        uetr(text);
+        return;
+    }
+    if same(word, b"identifier") {
+        identifier(text);
+        return;
+    }
+    if same(word, b"account") {
+        let a = shape::field::account_of(text);
+        put_number(a.digit);
+        put_number(a.code);
+        put_number(a.currency);
+        return;
+    }
+    if same(word, b"message") {
+        put_value(shape::field::message_code_of(text));
+        return;
+    }
+    if same(word, b"system") {
+        match shape::field::system_of(text) {
+            System::Sep => put(b" SEP"),
+            System::Asp => put(b" ASP"),
+            System::Neither => put(b" neither"),
+        }
+        return;
+    }
+    if same(word, b"original") {
+        put_test(shape::field::names_pacs_008(text));
+        return;
+    }
+}
+
+fn put_hex(n: u64, width: usize) {
+    put(b" ");
+    io::print_hex(STDOUT_FILENO, n, width);
+}
+
+fn uetr(text: &[u8]) {
+    put_test(shape::stored::is_uetr(text));
+    let u = shape::stored::uetr_of(text);
+    put_hex(u.high, 16);
+    put_hex(u.low, 16);
+}
+
+fn identifier(text: &[u8]) {
+    let i = shape::stored::identifier_of(text);
+    put_hex(i.first, 14);
+    put_hex(i.second, 14);
+    put_hex(i.third, 14);
+    put_hex(i.fourth, 14);
+    put_hex(i.fifth, 14);
+}
+
+// The codes of a check, and the order of a kind.
+pub fn codes(word: &[u8], text: &[u8]) {
+    if same(word, b"check") {
+        let n = number(text);
+        put(b" ");
+        put(&table::sep_code(n));
+        put(b" ");
+        put(&table::iso_code(Kind::Pacs008, n));
+    }
+    if same(word, b"order") {
+        if same(text, b"pacs.008") {
+            order(Kind::Pacs008);
+        }
+        if same(text, b"camt.050") {
+            order(Kind::Camt050);
+        }
+        if same(text, b"pacs.028") {
+            order(Kind::Pacs028);
+        }
+    }
+}
+
+fn order(kind: Kind) {
+    let n = table::order_length(kind);
+    let mut i = 0;
+    while i < n {
+        put_number(table::order_at(kind, i));
+        i += 1;
+    }
+}
