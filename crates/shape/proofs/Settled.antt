@@ -17,6 +17,8 @@ use Rattle.shape.proofs.byte.is_variant.Kinds as is-variant-kinds
 use Rattle.shape.proofs.byte.is_variant.Reads as is-variant-reads
 use Rattle.shape.proofs.byte.is_text.Kinds as is-text-kinds
 use Rattle.shape.proofs.byte.is_text.Reads as is-text-reads
+use Rattle.shape.proofs.byte.peek.Kinds as peek-kinds
+use Rattle.shape.proofs.byte.peek.Reads as peek-reads
 use Rattle.shape.proofs.date.is_leap.Kinds as is-leap-kinds
 use Rattle.shape.proofs.date.is_leap.Reads as is-leap-reads
 use Rattle.shape.proofs.date.days_in.Kinds as days-in-kinds
@@ -91,6 +93,9 @@ is-variant κs a x y e f = by-equation
 
 pub is-text : Settled _ is-text-kinds.ps is-text-kinds.r is-text-reads.Post
 is-text κs a x y e f = by-equation
+
+pub peek : Settled _ peek-kinds.ps peek-kinds.r peek-reads.Post
+peek κs a x y e f = by-equation
 
 pub is-leap : Settled _ is-leap-kinds.ps is-leap-kinds.r is-leap-reads.Post
 is-leap κs a x y e f = by-equation

@@ -1,5 +1,6 @@
-// The classes of bytes.
+// The classes of bytes, and the byte at a place.
 ghost use mathlib.Core.Path.{_≡_};
+ghost use lib.ListN.{getD};
 ghost use Rattle.shape.specs.Bytes.{isDigit, isCapital, isSmall, isLetter, isDigitOrCapital, isHex, isVariant, isText};
 
 pub fn is_digit(b: u8) -> bool
@@ -51,4 +52,14 @@ pub fn is_text(b: u8) -> bool
     ensures { λ r. ⌜ r ≡ isText b ⌝ }
 {
     (32 <= b) & (b <= 126) & (b != b'<') & (b != b'>') & (b != b'&')
+}
+
+// The byte at a place, or 0 past the end.
+pub fn peek(s: &[u8], i: usize) -> u8
+    ensures { λ r. ⌜ r ≡ getD (now (s .entry)) i 0 ⌝ }
+{
+    if i < s.len() {
+        return s[i];
+    }
+    0
 }

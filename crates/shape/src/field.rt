@@ -1,8 +1,8 @@
 // What a field's text is. A text that has not the shape gives nothing.
+use crate::byte::peek;
 use crate::date::is_date;
 use crate::number::decimal;
 use crate::number::digit_value;
-use crate::number::peek;
 use crate::pattern::DIGIT;
 use crate::pattern::TEXT;
 use crate::pattern::all_within;

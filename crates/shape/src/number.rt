@@ -2,7 +2,7 @@
 use crate::byte::is_digit;
 ghost use mathlib.Core.Path.{_≡_};
 ghost use Prim.Native.Nat.{_≤_, _<_, _^_};
-ghost use lib.ListN.{length, getD};
+ghost use lib.ListN.{length};
 ghost use Rattle.shape.specs.Numbers.{digitValue, hexValue, decimal};
 
 // 0 for what stands before the digits, so that it is a number for every byte.
@@ -40,14 +40,4 @@ pub fn decimal(s: &[u8]) -> u64
         i += 1;
     }
     n
-}
-
-// The byte at a place, or 0 past the end.
-pub fn peek(s: &[u8], i: usize) -> u8
-    ensures { λ r. ⌜ r ≡ getD (now (s .entry)) i 0 ⌝ }
-{
-    if i < s.len() {
-        return s[i];
-    }
-    0
 }

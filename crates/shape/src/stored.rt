@@ -1,7 +1,7 @@
 // Identifiers and UETRs as whole numbers, for storing and comparing. All zeros stand for no text.
+use crate::byte::peek;
 use crate::field::is_identifier;
 use crate::number::hex_value;
-use crate::number::peek;
 use crate::pattern::matches;
 ghost use mathlib.Core.Path.{_≡_};
 ghost use Prim.Native.Nat.{_<_, _≤_, _+_, _^_};

@@ -2,8 +2,8 @@
 use mathlib.Core.Path.{sym}
 use lib.ListN.{List·getD-eq-default}
 use borrow.Author.Needs.{needs}
-use Rattle.shape.proofs.number.peek.Statement.{statement}
-use Rattle.shape.proofs.number.peek.Tie as tie
+use Rattle.shape.proofs.byte.peek.Statement.{statement}
+use Rattle.shape.proofs.byte.peek.Tie as tie
 
 shared-slice-read-result : tie.Need-shared-slice-read-result
 shared-slice-read-result c = search needs
