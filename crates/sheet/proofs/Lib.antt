@@ -1,0 +1,13 @@
+pub mod Acceptance
+pub mod Cases
+pub mod Children
+pub mod Descent
+pub mod Ends
+pub mod Names
+pub mod Opened
+pub mod Outer
+pub mod Reading
+pub mod Runs
+pub mod Settled
+pub mod Tags
+pub mod Viability

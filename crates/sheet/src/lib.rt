@@ -1,0 +1,69 @@
+// Reading a sheet: whether it is well formed, and where its elements start and how deep each stands; or the place of the first byte that no
+// well-formed sheet has there. Document 01, "The sheet".
+// It knows nothing of messages. The grammar stands in `specs/Grammar.antt`, the reading byte by byte in `specs/Machine.antt` and
+// `specs/Answer.antt`.
+
+mod element;
+mod parts;
+
+use element::element;
+use shape::byte::peek;
+ghost use mathlib.Core.Path.{_≡_};
+ghost use Rattle.sheet.specs.Sheet.{Answers, sheetOf};
+ghost use Rattle.sheet.specs.Answer.{refused, readingOf};
+
+// A sheet that was read. Refused, it has its place and nothing else; accepted, the number of its elements, and for each its `<` and its depth.
+pub struct Sheet {
+    pub accepted: bool,
+    pub place: usize,
+    pub count: usize,
+    pub starts: [usize; 256],
+    pub depths: [usize; 256],
+}
+
+// The longest sheet in bytes, and how deep its elements nest.
+pub const SHEET_MOST: usize = 8192;
+
+pub const DEPTH_MOST: usize = 12;
+
+fn refused(place: usize) -> Sheet
+    ensures { λ r. ⌜ r ≡ sheetOf (refused place) ⌝ }
+{
+    Sheet {
+        accepted: false,
+        place,
+        count: 0,
+        starts: [0; 256],
+        depths: [0; 256],
+    }
+}
+
+// Reads a sheet. The first clause says what is right by the grammar, the second gives the same answer as a definition that computes.
+pub fn read(s: &[u8]) -> Sheet
+    ensures { λ r. ⌜ Answers (now (s .entry)) r ⌝ }
+    ensures { λ r. ⌜ r ≡ sheetOf (readingOf (now (s .entry))) ⌝ }
+{
+    if SHEET_MOST < s.len() {
+        return refused(SHEET_MOST);
+    }
+    if peek(s, 0) != b'<' {
+        return refused(0);
+    }
+    let mut starts = [0usize; 256];
+    let mut depths = [0usize; 256];
+    let came = element(s, 1, DEPTH_MOST, 0, &mut starts, &mut depths);
+    let place = came.place;
+    if !came.whole {
+        return refused(place);
+    }
+    if place < s.len() {
+        return refused(place);
+    }
+    Sheet {
+        accepted: true,
+        place: 0,
+        count: came.count,
+        starts,
+        depths,
+    }
+}
