@@ -7,6 +7,7 @@ mod element;
 mod parts;
 
 use element::element;
+pub use parts::is_name_byte;
 use shape::byte::peek;
 ghost use mathlib.Core.Path.{_≡_};
 ghost use Rattle.sheet.specs.Sheet.{Answers, sheetOf};

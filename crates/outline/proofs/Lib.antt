@@ -1,0 +1,9 @@
+pub mod Around
+pub mod Contents
+pub mod Gathered
+pub mod GoodParts
+pub mod OfTree
+pub mod Opened
+pub mod Settled
+pub mod Standing
+pub mod While

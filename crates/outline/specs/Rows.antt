@@ -1,0 +1,72 @@
+-- A sheet as rows, one for each element in the sheet's order: its path of names, its Ccy or none, its text or none. Rows of a tree, and rows
+-- read off a sheet's bytes by the places where its elements start and the depths at which they stand.
+-- That the two are the same on what a good tree is written as is the theorem of `proofs/`.
+use mathlib.Core.Bool.{Bool, true, false, cond}
+use mathlib.Core.List.{List, [], _∷_, _++_}
+use mathlib.Core.Option.{Option, none, some}
+use Prim.Native.Nat.{ℕ, suc, _+_, _-_}
+use Prim.Native.Char.{code}
+use lib.Dec.{eqb}
+use lib.ListN.{length, getD, take, drop}
+use Rattle.shape.specs.Bytes.{isText}
+use Rattle.sheet.specs.Grammar.{Element, leaf, parent, Elements, one, more, isNameByte}
+
+-- the names of an element and of those around it, innermost first; what it holds
+pub record Row : Type 0 where
+  pub path : List (List ℕ)
+  pub ccy : Option (List ℕ)
+  pub text : Option (List ℕ)
+
+-- the rows of a tree that stands in elements of these names
+unfoldable mutual
+  pub rows : Element → List (List ℕ) → List Row
+  rows (leaf name ccy text) around = record { path = name ∷ around; ccy = ccy; text = some text } ∷ []
+  rows (parent name es) around = record { path = name ∷ around; ccy = none; text = none } ∷ rowsAll es (name ∷ around)
+
+  pub rowsAll : Elements → List (List ℕ) → List Row
+  rowsAll (one e) around = rows e around
+  rowsAll (more e es) around = rows e around ++ rowsAll es around
+
+-- the bytes in front that pass a test
+abbrev pub while : (ℕ → Bool) → List ℕ → List ℕ
+while f [] = []
+while f (b ∷ s) = cond (f b) (b ∷ while f s) []
+
+-- of the element whose `<` stands at a: its name and where it ends; whether a Ccy follows, and which; where its content begins; its text
+unfoldable pub nameAt : List ℕ → ℕ → List ℕ
+nameAt s a = while isNameByte (drop (suc a) s)
+
+unfoldable pub nameEnd : List ℕ → ℕ → ℕ
+nameEnd s a = suc a + length (nameAt s a)
+
+unfoldable pub hasCcy : List ℕ → ℕ → Bool
+hasCcy s a = eqb (getD s (nameEnd s a) 0) (code " ")
+
+-- ` Ccy="UAH">` is eleven bytes, `>` one; the three capitals stand behind six
+unfoldable pub ccyAt : List ℕ → ℕ → Option (List ℕ)
+ccyAt s a = cond (hasCcy s a) (some (take 3 (drop (nameEnd s a + 6) s))) none
+
+unfoldable pub insideAt : List ℕ → ℕ → ℕ
+insideAt s a = nameEnd s a + cond (hasCcy s a) 11 1
+
+unfoldable pub hasText : List ℕ → ℕ → Bool
+hasText s a = isText (getD s (insideAt s a) 0)
+
+unfoldable pub textAt : List ℕ → ℕ → Option (List ℕ)
+textAt s a = cond (hasText s a) (some (while isText (drop (insideAt s a) s))) none
+
+-- the names around an element at depth d, where the one before it has this path: the outer d - 1 of them
+abbrev pub aroundAt : ℕ → List (List ℕ) → List (List ℕ)
+aroundAt d path = drop (length path - (d - 1)) path
+
+-- the rows of the elements that start at these places and stand at these depths, behind an element of this path
+unfoldable pub rowsFrom : List ℕ → List (List ℕ) → List ℕ → List ℕ → List Row
+rowsFrom s path [] ds = []
+rowsFrom s path (a ∷ more-starts) [] = []
+rowsFrom s path (a ∷ more-starts) (d ∷ ds) =
+    let here = nameAt s a ∷ aroundAt d path in
+    record { path = here; ccy = ccyAt s a; text = textAt s a } ∷ rowsFrom s here more-starts ds
+
+-- the rows of a sheet that was read
+unfoldable pub rowsOf : List ℕ → ℕ → List ℕ → List ℕ → List Row
+rowsOf s n starts depths = rowsFrom s [] (take n starts) (take n depths)
