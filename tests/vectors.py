@@ -184,7 +184,103 @@ def slips():
         vector("read " + digits, "".join(f" {v}" for v in values) if good else " no slip")
 
 
-for part in (ibans, dates, times, amounts, texts, stored, table, slips):
+class Broken(Exception):
+    pass
+
+
+class Reader:
+    """A sheet by recursive descent; what cannot go on is broken at the place where it stands."""
+
+    def __init__(self, text):
+        self.text, self.at, self.count = text, 0, 0
+
+    def byte(self, allowed):
+        if self.at < len(self.text) and allowed(self.text[self.at]):
+            self.at += 1
+            return self.text[self.at - 1]
+        raise Broken(self.at)
+
+    def word(self, word):
+        for c in word:
+            self.byte(lambda b, c=c: b == c)
+
+    def many(self, allowed, most):
+        start = self.at
+        while self.at < len(self.text) and self.at - start < most and allowed(self.text[self.at]):
+            self.at += 1
+        return self.text[start : self.at]
+
+    def element(self, depth):
+        name = self.byte(lambda b: re.fullmatch("[A-Za-z]", b)) + self.many(lambda b: re.fullmatch("[A-Za-z0-9]", b), 34)
+        self.count += 1
+        ccy = self.text[self.at : self.at + 1] == " "
+        if ccy:
+            self.word(' Ccy="')
+            for _ in range(3):
+                self.byte(lambda b: re.fullmatch("[A-Z]", b))
+            self.word('"')
+        self.word(">")
+        if self.many(is_text, 140):
+            self.word("</" + name + ">")
+            return
+        self.byte(lambda b: b == "<" and not ccy and depth < 12 and self.count < 256)
+        while True:
+            self.element(depth + 1)
+            self.word("<")
+            if self.text[self.at : self.at + 1] == "/":
+                self.word("/" + name + ">")
+                return
+            if self.count == 256:
+                raise Broken(self.at)
+
+
+def is_text(b):
+    return 32 <= ord(b) <= 126 and b not in "<>&"
+
+
+def sheet(s):
+    reader = Reader(s)
+    try:
+        if len(s) > 8192:
+            raise Broken(8192)
+        reader.word("<")
+        reader.element(1)
+        if reader.at < len(s):
+            raise Broken(reader.at)
+        vector("sheet " + s, f" accepted {reader.count}")
+    except Broken as broken:
+        vector("sheet " + s, f" refused at {broken}")
+
+
+def wrapped(levels, inner):
+    return "<A>" * levels + inner + "</A>" * levels
+
+
+def sheets():
+    whole = '<Document><A><B>x</B><C Ccy="UAH">1.00</C></A></Document>'
+    for n in range(len(whole) + 1):
+        sheet(whole[:n])
+    for s in ["<A></A>", "<A>x</B>", "<A>x</A>", "<A>x</A> ", "<A>x</A><A>x</A>", "<1>x</1>", "<>x</>", "< A>x</A>", "<A >x</A>", "<A>x</A >",
+              "<A>a&b</A>", "<A>a>b</A>", "<A>\x7f</A>", "<A>x</AA>", "<AA>x</A>", "<A><B>x</B>y</A>", "<A>y<B>x</B></A>", "<A/>", "x", "<A>x<"]:
+        sheet(s)
+    for ccy in [' Ccy="UAH"', ' Ccy="UAh"', ' Ccy="UA"', ' Ccy="UAHX"', " Ccy='UAH'", ' ccy="UAH"', '  Ccy="UAH"', ' Ccy ="UAH"', ' Ccy="UAH" ', ' Ccy=UAH']:
+        sheet("<A" + ccy + ">1</A>")
+    sheet('<A Ccy="UAH"><B>x</B></A>')
+    for n in (35, 36):
+        sheet("<" + "N" * n + ">x</" + "N" * n + ">")
+    for n in (140, 141):
+        sheet("<A>" + "t" * n + "</A>")
+    for n in (12, 13):
+        sheet(wrapped(n - 1, "<B>x</B>"))
+    for n in (256, 257):
+        sheet("<A>" + "<B>x</B>" * (n - 1) + "</A>")
+    sheet("<A>" + "<B>x</B>" * 254 + "<C><D>x</D></C></A>")
+    for n in (8192, 8193):
+        body = "<A>" + "".join("<B>" + "t" * 140 + "</B>" for _ in range(55))
+        sheet(body + "<B>" + "t" * (n - len(body) - len("<B></B></A>")) + "</B></A>")
+
+
+for part in (ibans, dates, times, amounts, texts, stored, table, slips, sheets):
     part()
 with open("crates/vectors/stdin", "w") as file:
     file.write("\n".join(asked) + "\n")

@@ -2,6 +2,7 @@
 // asked, a blank, and the text. The vectors stand in `stdin`, what they must give in `stdout`.
 // The program only takes lines apart and prints; all that is asked is answered by the proved libraries.
 mod ask;
+mod sheets;
 mod slips;
 mod words;
 
@@ -20,6 +21,7 @@ fn answer(line: &[u8]) {
     ask::identifiers(word, text);
     ask::codes(word, text);
     slips::ask(word, text);
+    sheets::ask(word, text);
     io::write_all(STDOUT_FILENO, b"\n");
 }
 
