@@ -7,8 +7,13 @@ use Rattle.sheet.specs.Sheet.{Answers, sheetOf}
 use mathlib.Core.List.{List}
 use Prim.Native.Nat.{ℕ}
 use Rattle.sheet.proofs.Reading.{right-only}
+use Rattle.sheet.proofs.parts.is_name_byte.Kinds as is-name-byte-kinds
+use Rattle.sheet.proofs.parts.is_name_byte.Reads as is-name-byte-reads
 use Rattle.sheet.proofs.read.Kinds as read-kinds
 use Rattle.sheet.proofs.read.Reads as read-reads
+
+pub is-name-byte : Settled _ is-name-byte-kinds.ps is-name-byte-kinds.r is-name-byte-reads.Post
+is-name-byte κs a x y e f = by-equation
 
 pub read : Settled _ read-kinds.ps read-kinds.r read-reads.Post
 read κs a x y e f p q = by-equation (p .1) (q .1)
