@@ -193,6 +193,7 @@ class Reader:
 
     def __init__(self, text):
         self.text, self.at, self.count = text, 0, 0
+        self.path, self.fields = [], []
 
     def byte(self, allowed):
         if self.at < len(self.text) and allowed(self.text[self.at]):
@@ -213,15 +214,24 @@ class Reader:
     def element(self, depth):
         name = self.byte(lambda b: re.fullmatch("[A-Za-z]", b)) + self.many(lambda b: re.fullmatch("[A-Za-z0-9]", b), 34)
         self.count += 1
-        ccy = self.text[self.at : self.at + 1] == " "
-        if ccy:
-            self.word(' Ccy="')
-            for _ in range(3):
-                self.byte(lambda b: re.fullmatch("[A-Z]", b))
-            self.word('"')
+        self.path.append(name)
+        self.content(name, depth, self.ccy())
+        self.path.pop()
+
+    def ccy(self):
+        if self.text[self.at : self.at + 1] != " ":
+            return ""
+        self.word(' Ccy="')
+        ccy = "".join(self.byte(lambda b: re.fullmatch("[A-Z]", b)) for _ in range(3))
+        self.word('"')
+        return f"[{ccy}]"
+
+    def content(self, name, depth, ccy):
         self.word(">")
-        if self.many(is_text, 140):
+        text = self.many(is_text, 140)
+        if text:
             self.word("</" + name + ">")
+            self.fields.append("/" + "/".join(self.path) + ccy + " " + text)
             return
         self.byte(lambda b: b == "<" and not ccy and depth < 12 and self.count < 256)
         while True:
@@ -238,7 +248,8 @@ def is_text(b):
     return 32 <= ord(b) <= 126 and b not in "<>&"
 
 
-def sheet(s):
+def read(s):
+    """The reader once it has read the sheet, and where the sheet is broken, if it is."""
     reader = Reader(s)
     try:
         if len(s) > 8192:
@@ -247,9 +258,20 @@ def sheet(s):
         reader.element(1)
         if reader.at < len(s):
             raise Broken(reader.at)
-        vector("sheet " + s, f" accepted {reader.count}")
+        return reader, None
     except Broken as broken:
-        vector("sheet " + s, f" refused at {broken}")
+        return reader, broken
+
+
+def sheet(s):
+    reader, broken = read(s)
+    vector("sheet " + s, f" refused at {broken}" if broken else f" accepted {reader.count}")
+
+
+def listing(s):
+    reader, broken = read(s)
+    lines = [f"refused 7 at {broken}"] if broken else [*reader.fields, f"{len(reader.fields)} fields"]
+    vector("list " + s, "\n" + "\n".join(lines) + "\n")
 
 
 def wrapped(levels, inner):
@@ -280,7 +302,21 @@ def sheets():
         sheet(body + "<B>" + "t" * (n - len(body) - len("<B></B></A>")) + "</B></A>")
 
 
-for part in (ibans, dates, times, amounts, texts, stored, table, slips, sheets):
+def listings():
+    for s in ['<Document><A><B>x</B><C Ccy="UAH">1.00</C></A></Document>', "<A></A>", "<A>x</B>", "", "<A>x</A>", '<A Ccy="EUR">x y</A>',
+              "<A><B><C>1</C></B><D>2</D><B><C>3</C><E><F>4</F></E></B><G>5</G></A>", "<A>x</A>\t"]:
+        listing(s)
+    for n in (9, 10, 99, 100, 255):
+        listing("<A>" + "<B>x</B>" * n + "</A>")
+    for n in (12, 13):
+        listing(wrapped(n - 1, "<B>x</B>"))
+    names = [letter * 35 for letter in "ABCDEFGHIJK"]
+    listing("".join(f"<{name}>" for name in names) + "<L>x</L>" * 244 + "".join(f"</{name}>" for name in reversed(names)))
+    listing("<A>" + "<B>" + "t" * 8186)
+    listing("<A>" + "<B>" + "t" * 8187)
+
+
+for part in (ibans, dates, times, amounts, texts, stored, table, slips, sheets, listings):
     part()
 with open("crates/vectors/stdin", "w") as file:
     file.write("\n".join(asked) + "\n")

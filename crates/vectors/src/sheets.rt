@@ -2,6 +2,7 @@
 use crate::ask::put;
 use crate::ask::put_number;
 use check::same;
+use lister::LISTING_MOST;
 
 fn read(text: &[u8]) {
     let r = sheet::read(text);
@@ -14,8 +15,18 @@ fn read(text: &[u8]) {
     }
 }
 
+fn list(text: &[u8]) {
+    let mut out = [0u8; LISTING_MOST];
+    let count = lister::listing(text, &mut out);
+    put(b"\n");
+    put(&out[..count]);
+}
+
 pub fn ask(word: &[u8], text: &[u8]) {
     if same(word, b"sheet") {
         read(text);
+    }
+    if same(word, b"list") {
+        list(text);
     }
 }
