@@ -13,7 +13,7 @@ use lib.Seq.{drop-cons, getD-take, getD-set-same, getD-set-other}
 use borrow.Author.Tests.{ltb-true, ltb-false}
 use Rattle.outline.specs.Rows.{Row, nameAt, ccyAt, textAt, aroundAt, rowsFrom, rowsOf}
 use Rattle.lister.specs.Listing.{lineWith, lineOf, linesOf, holdsText, fieldsOf}
-use Rattle.lister.specs.Placing.{namesOf}
+use Rattle.lister.specs.Writing.{namesOf}
 use Rattle.lister.proofs.Written.{Still, still-all}
 
 -- the names that a stack gives

@@ -18,7 +18,7 @@ use Rattle.outline.specs.Places.{textEnd, noParts, partsOf}
 use Rattle.outline.specs.declared.Parts.{Parts}
 use Rattle.shape.specs.Text.{bytes}
 use Rattle.lister.specs.Listing.{pathText, ccyText, lineWith}
-use Rattle.lister.specs.Placing.{namesOf}
+use Rattle.lister.specs.Writing.{namesOf}
 use Rattle.lister.proofs.Written.{Still, still-all}
 
 -- a part, one byte after the other

@@ -14,7 +14,7 @@ use Rattle.sheet.specs.Sheet.{sheetOf, Answers}
 use Rattle.sheet.specs.declared.Sheet.{Sheet}
 use Rattle.outline.specs.Rows.{rowsOf}
 use Rattle.lister.specs.Listing.{linesOf, fieldsOf, decimalText, textOf, listingOf, listedCount, listedAfter}
-use Rattle.lister.specs.Placing.{Wrote}
+use Rattle.lister.specs.Writing.{Wrote}
 use Rattle.lister.proofs.Written.{wrote-as, wrote-all}
 
 -- an accepted sheet has at most 256 elements, and room for 256 is kept

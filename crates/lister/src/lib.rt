@@ -1,6 +1,6 @@
 // The listing of a sheet: what the program of that name prints, as bytes.
 // It stands on rows and knows nothing of messages. The rule stands in `specs/Listing.antt`; what it means to write into a buffer that may be
-// too short, in `specs/Placing.antt`.
+// too short, in `specs/Writing.antt`.
 
 mod row;
 mod writer;
@@ -18,7 +18,7 @@ ghost use lib.ListN.{length};
 ghost use Rattle.shape.specs.Text.{bytes};
 ghost use Rattle.outline.specs.Rows.{rowsOf};
 ghost use Rattle.lister.specs.Listing.{listedCount, listedAfter, decimalText, linesOf, fieldsOf};
-ghost use Rattle.lister.specs.Placing.{Wrote};
+ghost use Rattle.lister.specs.Writing.{Wrote};
 
 // The longest listing of any sheet in bytes.
 pub const LISTING_MOST: usize = 148236;

@@ -11,7 +11,7 @@ ghost use lib.Dec.{ltb};
 ghost use lib.ListN.{take, drop};
 ghost use Rattle.outline.specs.Rows.{nameAt, ccyAt, textAt};
 ghost use Rattle.lister.specs.Listing.{pathText, ccyText, lineWith, holdsText};
-ghost use Rattle.lister.specs.Placing.{Wrote, namesOf};
+ghost use Rattle.lister.specs.Writing.{Wrote, namesOf};
 
 // The name of the element whose `<` stands at a place.
 fn put_name(out: &mut [u8], n: usize, s: &[u8], start: usize) -> usize

@@ -3,7 +3,7 @@ ghost use mathlib.Core.List.{_∷_, []};
 ghost use Prim.Native.Nat.{_-_};
 ghost use lib.ListN.{take, drop};
 ghost use Rattle.lister.specs.Listing.{ones, decimalText};
-ghost use Rattle.lister.specs.Placing.{Wrote};
+ghost use Rattle.lister.specs.Writing.{Wrote};
 
 // One byte.
 pub fn put(out: &mut [u8], n: usize, b: u8) -> usize

@@ -2,7 +2,7 @@
 use native.Mathlib.Omega.{arith}
 use borrow.Author.Tests.{not-true, not-false}
 use Rattle.lister.proofs.Written.{wrote-nothing, wrote-then, wrote-as}
-use Rattle.lister.specs.Placing.{namesOf}
+use Rattle.lister.specs.Writing.{namesOf}
 use Rattle.lister.proofs.Parts.{text-there, text-missing, line-there}
 use borrow.Author.Needs.{needs}
 use Rattle.lister.proofs.row.put_line.Statement.{statement}

@@ -4,7 +4,7 @@ use Prim.Native.Nat.{_-_, _≤_}
 use native.Mathlib.Omega.{arith}
 use lib.ListN.{length}
 use Rattle.lister.specs.Listing.{pathText}
-use Rattle.lister.specs.Placing.{Wrote, namesOf}
+use Rattle.lister.specs.Writing.{Wrote, namesOf}
 use Rattle.lister.proofs.Written.{wrote-nothing, wrote-then, wrote-as}
 use Rattle.lister.proofs.Parts.{path-longer, path-same}
 use Rattle.lister.proofs.row.put_path.Statement.{statement}

@@ -11,19 +11,19 @@ use Rattle.outline.specs.Rows.{nameAt}
 abbrev pub behind : List ℕ → ℕ → ℕ
 behind out n = cond (ltb n (length out)) (suc n) n
 
--- the buffer and the place once the bytes w are written from n on
-unfoldable pub placed : List ℕ → ℕ → List ℕ → List ℕ
-placed out n [] = out
-placed out n (b ∷ w) = placed (set out n b) (behind out n) w
+-- the buffer and the place once the bytes w stand from n on
+unfoldable pub written : List ℕ → ℕ → List ℕ → List ℕ
+written out n [] = out
+written out n (b ∷ w) = written (set out n b) (behind out n) w
 
-unfoldable pub placedTo : List ℕ → ℕ → List ℕ → ℕ
-placedTo out n [] = n
-placedTo out n (b ∷ w) = placedTo (set out n b) (behind out n) w
+unfoldable pub writtenTo : List ℕ → ℕ → List ℕ → ℕ
+writtenTo out n [] = n
+writtenTo out n (b ∷ w) = writtenTo (set out n b) (behind out n) w
 
 -- a function that was given out and n wrote w: what it left, and the place that it says
 pub record Wrote (out : List ℕ) (n : ℕ) (w : List ℕ) (left : List ℕ) (to : ℕ) : Type 0 where
-  pub buffer : left ≡ placed out n w
-  pub place : to ≡ placedTo out n w
+  pub buffer : left ≡ written out n w
+  pub place : to ≡ writtenTo out n w
 
 -- the names of the elements that start at the first places of a stack, the last of them first
 abbrev pub namesOf : List ℕ → List ℕ → ℕ → List (List ℕ)
