@@ -1,12 +1,15 @@
 #!/usr/bin/env python3
 """Writes the vectors of crates/vectors: `stdin`, what is asked, and `stdout`, what must come out.
 
-What must come out is worked out here a second time, from the documents, with Python's own calendar, long numbers and regular
-expressions; nothing is taken from the Rattle code. The IBANs are the example numbers that countries publish for ISO 13616.
+What must come out is worked out a second time, from the documents (`second.py`, `messages.py`); nothing is taken from the Rattle code.
+The IBANs are the example numbers that countries publish for ISO 13616.
 Run it from the project's root after a change to the vectors; `git diff` then shows what moved.
 """
 import datetime
 import re
+
+from messages import messages
+from second import UUID4, kopecks_in, number_as, packed, read, real_date, time_in
 
 IBANS = """
 GB82WEST12345698765432 DE89370400440532013000 FR1420041010050500013M02606 ES9121000418450200051332
@@ -56,14 +59,6 @@ def ibans():
         iban(s)
 
 
-def real_date(y, m, d):
-    try:
-        day = datetime.date(int(y), int(m), int(d))
-    except ValueError:
-        return None
-    return day if 2000 <= day.year <= 2099 else None
-
-
 def dates():
     for s in """20240301 20240229 20230301 20230229 20000301 20000229 20000101 19991231 20991231 21000101 20240101 20240501
                 20241301 20240132 20240431 20240430 20240701 20240001 20240100 2024 20960301 20960229""".split():
@@ -79,9 +74,7 @@ def times():
         "1999-12-31T23:59:59", "2024-03-01T24:00:00", "2024-03-01T23:60:00", "2024-03-01T23:59:60", "2024-03-01 12:34:56",
         "2024-03-01T12:34:56Z", "2024-03-01T12:34", "2024-3-01T12:34:56", "",
     ]:
-        m = re.fullmatch(r"(\d{4})-(\d\d)-(\d\d)T(\d\d):(\d\d):(\d\d)", s, re.A)
-        good = m and real_date(*m.groups()[:3]) and int(m[4]) < 24 and int(m[5]) < 60 and int(m[6]) < 60
-        vector("time " + s, f" {int(''.join(m.groups()))}" if good else " none")
+        vector("time " + s, number_as(time_in(s)))
 
 
 def amounts():
@@ -89,13 +82,7 @@ def amounts():
         "500.00", "500.01", "0.01", "0.00", "0.10", "10.00", "99999999999.99", "100000000000.00", "00.01", "01.00", "1.0",
         "1.000", "1", ".01", "1,00", "-1.00", "1.0a", "", "12.3.4", "1 0.00",
     ]:
-        m = re.fullmatch(r"(0|[1-9][0-9]{0,10})\.([0-9]{2})", s)
-        kopecks = int(m[1]) * 100 + int(m[2]) if m else 0
-        vector("amount " + s, f" {kopecks}" if kopecks else " none")
-
-
-def packed(text):
-    return int.from_bytes(text.encode(), "big")
+        vector("amount " + s, number_as(kopecks_in(s) or None))
 
 
 def texts():
@@ -119,14 +106,13 @@ def texts():
 
 
 def stored():
-    uuid4 = "[a-f0-9]{8}-[a-f0-9]{4}-4[a-f0-9]{3}-[89ab][a-f0-9]{3}-[a-f0-9]{12}"
     for s in [
         "eb6305c9-1f7f-49de-aed0-16487c27b42d", "00000000-0000-4000-8000-000000000000", "ffffffff-ffff-4fff-bfff-ffffffffffff",
         "123e4567-e89b-42d3-a456-426614174000", "123e4567-e89b-12d3-a456-426614174000", "123e4567-e89b-42d3-c456-426614174000",
         "123E4567-E89B-42D3-A456-426614174000", "123e4567e89b42d3a456426614174000", "123e4567-e89b-42d3-a456-42661417400",
         "123e4567-e89b-42d3-a456-4266141740000", "123e4567_e89b-42d3-a456-426614174000", "",
     ]:
-        good = re.fullmatch(uuid4, s)
+        good = re.fullmatch(UUID4, s)
         digits = s.replace("-", "") if good else "0" * 32
         vector("uetr " + s, (" yes " if good else " no ") + digits[:16] + " " + digits[16:])
     for s in ["3000012024030100000001", "A", "a" * 35, "a" * 36, "Lan & Son", "x<y", "12345678", "with a blank", ""]:
@@ -184,85 +170,6 @@ def slips():
         vector("read " + digits, "".join(f" {v}" for v in values) if good else " no slip")
 
 
-class Broken(Exception):
-    pass
-
-
-class Reader:
-    """A sheet by recursive descent; what cannot go on is broken at the place where it stands."""
-
-    def __init__(self, text):
-        self.text, self.at, self.count = text, 0, 0
-        self.path, self.fields = [], []
-
-    def byte(self, allowed):
-        if self.at < len(self.text) and allowed(self.text[self.at]):
-            self.at += 1
-            return self.text[self.at - 1]
-        raise Broken(self.at)
-
-    def word(self, word):
-        for c in word:
-            self.byte(lambda b, c=c: b == c)
-
-    def many(self, allowed, most):
-        start = self.at
-        while self.at < len(self.text) and self.at - start < most and allowed(self.text[self.at]):
-            self.at += 1
-        return self.text[start : self.at]
-
-    def element(self, depth):
-        name = self.byte(lambda b: re.fullmatch("[A-Za-z]", b)) + self.many(lambda b: re.fullmatch("[A-Za-z0-9]", b), 34)
-        self.count += 1
-        self.path.append(name)
-        self.content(name, depth, self.ccy())
-        self.path.pop()
-
-    def ccy(self):
-        if self.text[self.at : self.at + 1] != " ":
-            return ""
-        self.word(' Ccy="')
-        ccy = "".join(self.byte(lambda b: re.fullmatch("[A-Z]", b)) for _ in range(3))
-        self.word('"')
-        return f"[{ccy}]"
-
-    def content(self, name, depth, ccy):
-        self.word(">")
-        text = self.many(is_text, 140)
-        if text:
-            self.word("</" + name + ">")
-            self.fields.append("/" + "/".join(self.path) + ccy + " " + text)
-            return
-        self.byte(lambda b: b == "<" and not ccy and depth < 12 and self.count < 256)
-        while True:
-            self.element(depth + 1)
-            self.word("<")
-            if self.text[self.at : self.at + 1] == "/":
-                self.word("/" + name + ">")
-                return
-            if self.count == 256:
-                raise Broken(self.at)
-
-
-def is_text(b):
-    return 32 <= ord(b) <= 126 and b not in "<>&"
-
-
-def read(s):
-    """The reader once it has read the sheet, and where the sheet is broken, if it is."""
-    reader = Reader(s)
-    try:
-        if len(s) > 8192:
-            raise Broken(8192)
-        reader.word("<")
-        reader.element(1)
-        if reader.at < len(s):
-            raise Broken(reader.at)
-        return reader, None
-    except Broken as broken:
-        return reader, broken
-
-
 def sheet(s):
     reader, broken = read(s)
     vector("sheet " + s, f" refused at {broken}" if broken else f" accepted {reader.count}")
@@ -318,6 +225,8 @@ def listings():
 
 for part in (ibans, dates, times, amounts, texts, stored, table, slips, sheets, listings):
     part()
+for question, answer in messages():
+    vector(question, answer)
 with open("crates/vectors/stdin", "w") as file:
     file.write("\n".join(asked) + "\n")
 with open("crates/vectors/stdout", "w") as file:

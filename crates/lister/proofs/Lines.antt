@@ -11,7 +11,8 @@ use lib.Dec.{ltb}
 use lib.ListN.{length, take, drop, getD, set, length-take, drop-of-length-le}
 use lib.Seq.{drop-cons, getD-take, getD-set-same, getD-set-other}
 use borrow.Author.Tests.{ltb-true, ltb-false}
-use Rattle.outline.specs.Rows.{Row, nameAt, ccyAt, textAt, aroundAt, rowsFrom, rowsOf}
+use Rattle.outline.proofs.Walk.{list-goes, list-ends}
+use Rattle.outline.specs.Rows.{Row, nameAt, ccyAt, insideAt, textAt, aroundAt, rowsFrom, rowsOf}
 use Rattle.lister.specs.Listing.{lineWith, lineOf, linesOf, holdsText, fieldsOf}
 use Rattle.lister.specs.Writing.{namesOf}
 use Rattle.lister.proofs.Written.{Still, still-all}
@@ -49,16 +50,6 @@ module _ (s stack : List ℕ) where
 pub rowsLeft : List ℕ → ℕ → List ℕ → List ℕ → List ℕ → ℕ → ℕ → List Row
 rowsLeft s count starts depths stack level k = rowsFrom s (namesOf s stack level) (drop k (take count starts)) (drop k (take count depths))
 
-list-goes : (l : List ℕ) (count k : ℕ) → k < count → k < length l → drop k (take count l) ≡ getD l k 0 ∷ drop (k + 1) (take count l)
-list-goes l count k h m =
-    let f : k < length (take count l) = omega (arith, length-take count l) in
-    drop-cons (take count l) k 0 f ∙ rw (getD-take count l k 0 h, add-one k)
-
-list-ends : (l : List ℕ) (count k : ℕ) → count ≤ k → drop k (take count l) ≡ []
-list-ends l count k h =
-    let f : length (take count l) ≤ k = omega (arith, length-take count l) in
-    drop-of-length-le (take count l) f
-
 module _ (s : List ℕ) (count : ℕ) (starts depths stack : List ℕ) where
   pub rows-begin : rowsOf s count starts depths ≡ rowsLeft s count starts depths stack 0 0
   unfolding rowsOf rowsLeft
@@ -86,7 +77,7 @@ module _ (s : List ℕ) (count : ℕ) (starts depths stack : List ℕ) where
     -- the k-th row, whose path is the j names around it and its own
     module _ (j : ℕ) (room : j < length stack) (around : j ≡ cond (ltb (getD depths k 0 - 1) level) (getD depths k 0 - 1) level) (h : k < count) (hs : k < length starts) (hd : k < length depths) where
       row-goes : rowsLeft s count starts depths stack level k
-          ≡ record { path = namesOf s (set stack j (getD starts k 0)) (j + 1); ccy = ccyAt s (getD starts k 0); text = textAt s (getD starts k 0) }
+          ≡ record { path = namesOf s (set stack j (getD starts k 0)) (j + 1); ccy = ccyAt s (getD starts k 0); inside = insideAt s (getD starts k 0); text = textAt s (getD starts k 0) }
           ∷ rowsLeft s count starts depths (set stack j (getD starts k 0)) (j + 1) (k + 1)
       unfolding rowsLeft rowsFrom
       row-goes =
@@ -113,11 +104,3 @@ module _ (s : List ℕ) (count : ℕ) (starts depths stack : List ℕ) where
 pub holds-one : (text : Option (List ℕ)) → holdsText text ≤ 1
 holds-one none = omega arith
 holds-one (some text) = omega arith
-
--- the element that a depth asks for stands no higher than the stack
-pub around-low : (j m level : ℕ) → j ≡ cond (ltb m level) m level → j ≤ level
-around-low j m level e = go (ltb m level) refl e
-  where
-    go : (t : Bool) → ltb m level ≡ t → j ≡ cond t m level → j ≤ level
-    go true f e = omega (arith, ltb-true m level f)
-    go false f e = omega arith

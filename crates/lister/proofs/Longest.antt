@@ -10,7 +10,7 @@ use lib.Dec.{ltb}
 use lib.ListN.{length, length-append, length-take}
 use Rattle.shape.proofs.Loops.{fits-length}
 use Rattle.shape.specs.Patterns.{currencyPattern}
-use Rattle.sheet.specs.Grammar.{Element, leaf, parent, Elements, one, more, render, countOf, countAll, depthOf, depthAll, isName, isCcy, isContent, goodParts, goodAll, Good, WellFormed, startsFrom, depthsFrom, placed}
+use Rattle.sheet.specs.Grammar.{Element, leaf, parent, Elements, one, more, opening, render, countOf, countAll, depthOf, depthAll, isName, isCcy, isContent, goodParts, goodAll, Good, WellFormed, startsFrom, depthsFrom, placed}
 use Rattle.sheet.specs.Answer.{Reading, accepted, refused, readingOf}
 use Rattle.sheet.specs.Right.{Right, whole, broken, long}
 use Rattle.sheet.proofs.Reading.{reading-right}
@@ -54,24 +54,26 @@ lines-append (x ∷ xs) ys = rw (lines-append xs ys, append-assoc (lineOf x) (li
 mutual
   unfolding linesOf lineOf rows rowsAll countOf countAll depthOf depthAll goodParts goodAll
 
-  lines-most : (e : Element) (around : List (List ℕ)) (k : ℕ) → goodParts e ≡ true → length (pathText around) ≤ 36 * k → k + depthOf e ≤ 12
-      → length (linesOf (rows e around)) ≤ 579 * countOf e
-  lines-most (leaf name ccy text) around k g h deep =
+  lines-most : (e : Element) (i : ℕ) (around : List (List ℕ)) (k : ℕ) → goodParts e ≡ true → length (pathText around) ≤ 36 * k → k + depthOf e ≤ 12
+      → length (linesOf (rows e i around)) ≤ 579 * countOf e
+  lines-most (leaf name ccy text) i around k g h deep =
       rw (append-nil (lineWith (name ∷ around) ccy (some text)))
       (line-most (name ∷ around) ccy text (suc k) (path-grows name around k (leaf-name name ccy text g) h) (omega arith)
       (leaf-ccy name ccy text g) (leaf-content name ccy text g))
-  lines-most (parent name es) around k g h deep =
-      let inner : length (linesOf (rowsAll es (name ∷ around))) ≤ 579 * countAll es =
-      all-most es (name ∷ around) (suc k) (parent-children name es g) (path-grows name around k (parent-name name es g) h) (omega arith) in
+  lines-most (parent name es) i around k g h deep =
+      let j : ℕ = i + length (opening name none) in
+      let inner : length (linesOf (rowsAll es j (name ∷ around))) ≤ 579 * countAll es =
+      all-most es j (name ∷ around) (suc k) (parent-children name es g) (path-grows name around k (parent-name name es g) h) (omega arith) in
       omega (arith, inner)
 
-  all-most : (es : Elements) (around : List (List ℕ)) (k : ℕ) → goodAll es ≡ true → length (pathText around) ≤ 36 * k → k + depthAll es ≤ 12
-      → length (linesOf (rowsAll es around)) ≤ 579 * countAll es
-  all-most (one e) around k g h deep = lines-most e around k g h deep
-  all-most (more e es) around k g h deep =
-      let first : length (linesOf (rows e around)) ≤ 579 * countOf e = lines-most e around k (first-good e es g) h (omega arith) in
-      let others : length (linesOf (rowsAll es around)) ≤ 579 * countAll es = all-most es around k (others-good e es g) h (omega arith) in
-      rw (lines-append (rows e around) (rowsAll es around)) (omega (arith, length-append (linesOf (rows e around)) (linesOf (rowsAll es around)), first, others))
+  all-most : (es : Elements) (i : ℕ) (around : List (List ℕ)) (k : ℕ) → goodAll es ≡ true → length (pathText around) ≤ 36 * k → k + depthAll es ≤ 12
+      → length (linesOf (rowsAll es i around)) ≤ 579 * countAll es
+  all-most (one e) i around k g h deep = lines-most e i around k g h deep
+  all-most (more e es) i around k g h deep =
+      let j : ℕ = i + length (render e) in
+      let first : length (linesOf (rows e i around)) ≤ 579 * countOf e = lines-most e i around k (first-good e es g) h (omega arith) in
+      let others : length (linesOf (rowsAll es j around)) ≤ 579 * countAll es = all-most es j around k (others-good e es g) h (omega arith) in
+      rw (lines-append (rows e i around) (rowsAll es j around)) (omega (arith, length-append (linesOf (rows e i around)) (linesOf (rowsAll es j around)), first, others))
 
 either-most : (t : Bool) (x y : List ℕ) → length x ≤ 4 → length y ≤ 4 → length (cond t x y) ≤ 4
 either-most true x y h k = h
@@ -90,10 +92,10 @@ tree-most e good =
     rw (rows-of-tree e good)
     (omega (
       arith,
-      length-append (linesOf (rows e [])) (decimalText (fieldsOf (rows e [])) ++ (32 ∷ 102 ∷ 105 ∷ 101 ∷ 108 ∷ 100 ∷ 115 ∷ 10 ∷ [])),
-      length-append (decimalText (fieldsOf (rows e []))) (32 ∷ 102 ∷ 105 ∷ 101 ∷ 108 ∷ 100 ∷ 115 ∷ 10 ∷ []),
-      decimal-most (fieldsOf (rows e [])),
-      lines-most e [] 0 (good .parts) (omega arith) (omega (arith, good .shallow)),
+      length-append (linesOf (rows e 0 [])) (decimalText (fieldsOf (rows e 0 [])) ++ (32 ∷ 102 ∷ 105 ∷ 101 ∷ 108 ∷ 100 ∷ 115 ∷ 10 ∷ [])),
+      length-append (decimalText (fieldsOf (rows e 0 []))) (32 ∷ 102 ∷ 105 ∷ 101 ∷ 108 ∷ 100 ∷ 115 ∷ 10 ∷ []),
+      decimal-most (fieldsOf (rows e 0 [])),
+      lines-most e 0 [] 0 (good .parts) (omega arith) (omega (arith, good .shallow)),
       good .few,
     ))
 

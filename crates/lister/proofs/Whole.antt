@@ -3,34 +3,19 @@
 use mathlib.Core.Path.{_≡_, sym, ap, _∙_}
 use mathlib.Core.Bool.{true, false, false≢true, true≢false}
 use mathlib.Core.List.{List, _++_}
-use Prim.Native.Nat.{ℕ, _+_, _-_, _≤_}
+use Prim.Native.Nat.{ℕ, _≤_}
 use native.Mathlib.Omega.{arith}
-use lib.ListN.{length, take, drop, replicate, length-append, length-take, length-replicate}
+use lib.ListN.{length, take, drop, length-append, length-take}
 use Rattle.shape.specs.Text.{bytes}
-use Rattle.sheet.specs.Grammar.{placed, startsFrom, depthsFrom}
 use Rattle.sheet.specs.Answer.{Reading, accepted, refused, readingOf}
-use Rattle.sheet.specs.Right.{Right, whole, broken, long}
-use Rattle.sheet.specs.Sheet.{sheetOf, Answers}
+use Rattle.sheet.specs.Sheet.{sheetOf}
 use Rattle.sheet.specs.declared.Sheet.{Sheet}
 use Rattle.outline.specs.Rows.{rowsOf}
 use Rattle.lister.specs.Listing.{linesOf, fieldsOf, decimalText, textOf, listingOf, listedCount, listedAfter}
 use Rattle.lister.specs.Writing.{Wrote}
 use Rattle.lister.proofs.Written.{wrote-as, wrote-all}
 
--- an accepted sheet has at most 256 elements, and room for 256 is kept
-placed-long : (xs : List ℕ) → 256 ≤ length (placed xs)
-placed-long xs = omega (arith, length-append xs (replicate (256 - length xs) 0), length-replicate {A = ℕ} (256 - length xs) 0)
-
 module _ (s : List ℕ) (r : Sheet) where
-  bounds : {g : Reading} → Right s g → r ≡ sheetOf g → r .accepted ≡ true → (r .count ≤ 256) × (256 ≤ length (r .starts)) × (256 ≤ length (r .depths))
-  unfolding sheetOf
-  bounds (whole w h) e t = rw e (w .good .few, placed-long (startsFrom (w .tree) 0), placed-long (depthsFrom (w .tree) 1))
-  bounds (broken k a b d f m) e t = absurd (false≢true (sym (ap (λ (x : Sheet). x .accepted) e) ∙ t))
-  bounds (long h) e t = absurd (false≢true (sym (ap (λ (x : Sheet). x .accepted) e) ∙ t))
-
-  pub within : Answers s r → r .accepted ≡ true → (r .count ≤ 256) × (256 ≤ length (r .starts)) × (256 ≤ length (r .depths))
-  within a t = bounds (a .right) (a .image) t
-
   refused-text : (g : Reading) → r ≡ sheetOf g → r .accepted ≡ false → bytes "refused 7 at " ++ (decimalText (r .place) ++ bytes "\n") ≡ textOf s g
   unfolding sheetOf textOf
   refused-text (refused k) e f = rw e

@@ -5,7 +5,7 @@
 mod row;
 mod writer;
 
-use row::around;
+use outline::names_around;
 use row::put_line;
 use row::texts_at;
 use sheet::read;
@@ -48,7 +48,7 @@ fn put_lines(
     let mut k = 0;
     while k < count {
         let start = starts[k];
-        level = around(depths[k], level);
+        level = names_around(depths[k], level);
         stack[level] = start;
         level += 1;
         to = put_line(out, to, s, start, &stack, level);

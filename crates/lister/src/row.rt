@@ -6,8 +6,7 @@ use sheet::is_name_byte;
 ghost use mathlib.Core.Path.{_≡_};
 ghost use mathlib.Core.Bool.{cond};
 ghost use mathlib.Core.Option.{some, none};
-ghost use Prim.Native.Nat.{_≤_, _<_, _+_, _-_, _^_};
-ghost use lib.Dec.{ltb};
+ghost use Prim.Native.Nat.{_≤_, _<_, _+_, _^_};
 ghost use lib.ListN.{take, drop};
 ghost use Rattle.outline.specs.Rows.{nameAt, ccyAt, textAt};
 ghost use Rattle.lister.specs.Listing.{pathText, ccyText, lineWith, holdsText};
@@ -96,17 +95,4 @@ pub fn put_line(
     let end = parts.end;
     let written = put_part(out, blank, s, inside, end);
     put(out, written, b'\n')
-}
-
-// How many elements stand around one at this depth, where the one before it has so many names.
-pub fn around(depth: usize, level: usize) -> usize
-    ensures { λ r. ⌜ r ≡ cond (ltb (depth - 1) level) (depth - 1) level ⌝ }
-{
-    if depth == 0 {
-        return 0;
-    }
-    if depth - 1 < level {
-        return depth - 1;
-    }
-    level
 }

@@ -4,6 +4,9 @@ pub mod Gathered
 pub mod GoodParts
 pub mod OfTree
 pub mod Opened
+pub mod Paths
 pub mod Settled
+pub mod Shown
 pub mod Standing
 pub mod While
+pub mod Walk

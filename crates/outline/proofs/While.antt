@@ -3,12 +3,13 @@
 use mathlib.Core.Path.{_≡_, refl, sym, ap, _∙_}
 use mathlib.Core.Bool.{Bool, true, false, cond}
 use mathlib.Core.List.{List, [], _∷_}
-use Prim.Native.Nat.{ℕ, suc, _+_, _≤_, _<_}
+use Prim.Native.Nat.{ℕ, suc, _+_, _-_, _≤_, _<_}
 use native.Mathlib.Omega.{arith}
 use native.Mathlib.Numerals.{add-one}
-use lib.ListN.{length, getD, drop, length-drop, drop-of-length-le}
+use lib.ListN.{length, getD, take, drop, length-drop, drop-of-length-le}
 use lib.Seq.{drop-cons}
-use Rattle.outline.specs.Rows.{while}
+use Rattle.sheet.specs.Grammar.{isNameByte}
+use Rattle.outline.specs.Rows.{while, nameAt}
 
 module _ (f : ℕ → Bool) (s : List ℕ) (from i : ℕ) (so-far : from + length (while f (drop from s)) ≡ i + length (while f (drop i s))) where
   pub while-goes : i < length s → f (getD s i 0) ≡ true → from + length (while f (drop from s)) ≡ i + 1 + length (while f (drop (i + 1) s))
@@ -37,3 +38,23 @@ while-short f (b ∷ s) = go (while-short f s) (f b)
 
 pub while-inside : (f : ℕ → Bool) (s : List ℕ) (from : ℕ) → from ≤ length s → from + length (while f (drop from s)) ≤ length s
 while-inside f s from h = omega (arith, while-short f (drop from s), length-drop from s)
+
+-- and they are as many of its bytes as they are
+pub take-while : (f : ℕ → Bool) (s : List ℕ) → take (length (while f s)) s ≡ while f s
+take-while f [] = refl
+take-while f (b ∷ s) = go (take-while f s) (f b)
+  where
+    go : take (length (while f s)) s ≡ while f s → (t : Bool) → take (length (cond t (b ∷ while f s) [])) (b ∷ s) ≡ cond t (b ∷ while f s) []
+    go e true = ap (λ (x : List ℕ). b ∷ x) e
+    go e false = refl
+
+-- a name as a part of the sheet: from behind its `<` to where its bytes end; behind the sheet's end there is none
+pub name-part : (s : List ℕ) (a to : ℕ) → to ≡ a + 1 + length (while isNameByte (drop (a + 1) s)) → take (to - (a + 1)) (drop (a + 1) s) ≡ nameAt s a
+unfolding nameAt
+name-part s a to e =
+    let f : to - (a + 1) ≡ length (while isNameByte (drop (a + 1) s)) = omega arith in
+    rw (f, ← add-one a) (take-while isNameByte (drop (a + 1) s))
+
+pub no-name : (s : List ℕ) (a : ℕ) → length s ≤ a → [] ≡ nameAt s a
+unfolding nameAt
+no-name s a h = let k : length s ≤ suc a = omega arith in rw (drop-of-length-le s k)

@@ -1,5 +1,5 @@
--- A sheet as rows, one for each element in the sheet's order: its path of names, its Ccy or none, its text or none. Rows of a tree, and rows
--- read off a sheet's bytes by the places where its elements start and the depths at which they stand.
+-- A sheet as rows, one for each element in the sheet's order: its path of names, its Ccy or none, where its content begins, its text or none.
+-- Rows of a tree, and rows read off a sheet's bytes by the places where its elements start and the depths at which they stand.
 -- That the two are the same on what a good tree is written as is the theorem of `proofs/`.
 use mathlib.Core.Bool.{Bool, true, false, cond}
 use mathlib.Core.List.{List, [], _∷_, _++_}
@@ -9,23 +9,27 @@ use Prim.Native.Char.{code}
 use lib.Dec.{eqb}
 use lib.ListN.{length, getD, take, drop}
 use Rattle.shape.specs.Bytes.{isText}
-use Rattle.sheet.specs.Grammar.{Element, leaf, parent, Elements, one, more, isNameByte}
+use Rattle.sheet.specs.Grammar.{Element, leaf, parent, Elements, one, more, opening, render, isNameByte}
 
--- the names of an element and of those around it, innermost first; what it holds
+-- the names of an element and of those around it, innermost first; where in the sheet its content begins; what it holds
 pub record Row : Type 0 where
   pub path : List (List ℕ)
   pub ccy : Option (List ℕ)
+  pub inside : ℕ
   pub text : Option (List ℕ)
 
--- the rows of a tree that stands in elements of these names
+-- the rows of a tree that stands at place i in elements of these names
 unfoldable mutual
-  pub rows : Element → List (List ℕ) → List Row
-  rows (leaf name ccy text) around = record { path = name ∷ around; ccy = ccy; text = some text } ∷ []
-  rows (parent name es) around = record { path = name ∷ around; ccy = none; text = none } ∷ rowsAll es (name ∷ around)
+  pub rows : Element → ℕ → List (List ℕ) → List Row
+  rows (leaf name ccy text) i around =
+      record { path = name ∷ around; ccy = ccy; inside = i + length (opening name ccy); text = some text } ∷ []
+  rows (parent name es) i around =
+      record { path = name ∷ around; ccy = none; inside = i + length (opening name none); text = none }
+      ∷ rowsAll es (i + length (opening name none)) (name ∷ around)
 
-  pub rowsAll : Elements → List (List ℕ) → List Row
-  rowsAll (one e) around = rows e around
-  rowsAll (more e es) around = rows e around ++ rowsAll es around
+  pub rowsAll : Elements → ℕ → List (List ℕ) → List Row
+  rowsAll (one e) i around = rows e i around
+  rowsAll (more e es) i around = rows e i around ++ rowsAll es (i + length (render e)) around
 
 -- the bytes in front that pass a test
 abbrev pub while : (ℕ → Bool) → List ℕ → List ℕ
@@ -59,13 +63,17 @@ textAt s a = cond (hasText s a) (some (while isText (drop (insideAt s a) s))) no
 abbrev pub aroundAt : ℕ → List (List ℕ) → List (List ℕ)
 aroundAt d path = drop (length path - (d - 1)) path
 
+-- the row of the element at a, with this path
+abbrev pub rowOn : List ℕ → List (List ℕ) → ℕ → Row
+rowOn s path a = record { path = path; ccy = ccyAt s a; inside = insideAt s a; text = textAt s a }
+
 -- the rows of the elements that start at these places and stand at these depths, behind an element of this path
 unfoldable pub rowsFrom : List ℕ → List (List ℕ) → List ℕ → List ℕ → List Row
 rowsFrom s path [] ds = []
 rowsFrom s path (a ∷ more-starts) [] = []
 rowsFrom s path (a ∷ more-starts) (d ∷ ds) =
     let here = nameAt s a ∷ aroundAt d path in
-    record { path = here; ccy = ccyAt s a; text = textAt s a } ∷ rowsFrom s here more-starts ds
+    rowOn s here a ∷ rowsFrom s here more-starts ds
 
 -- the rows of a sheet that was read
 unfoldable pub rowsOf : List ℕ → ℕ → List ℕ → List ℕ → List Row

@@ -7,11 +7,12 @@ use shape::byte::peek;
 use sheet::is_name_byte;
 ghost use mathlib.Core.Path.{_≡_};
 ghost use mathlib.Core.Bool.{cond};
-ghost use Prim.Native.Nat.{_+_, _≤_, _<_, _^_};
+ghost use Prim.Native.Nat.{_+_, _-_, _≤_, _<_, _^_};
+ghost use lib.Dec.{ltb};
 ghost use lib.ListN.{length, drop};
 ghost use Rattle.shape.specs.Bytes.{isText};
 ghost use Rattle.sheet.specs.Grammar.{isNameByte};
-ghost use Rattle.outline.specs.Rows.{while};
+ghost use Rattle.outline.specs.Rows.{while, nameAt};
 ghost use Rattle.outline.specs.Places.{noParts, partsOf};
 
 // Where the parts of an element stand: its name ends at `to`; its Ccy, if it has one, is the three bytes from `to + 6` on; its content begins
@@ -50,6 +51,18 @@ fn name_end(s: &[u8], from: usize) -> usize
         i += 1;
     }
     i
+}
+
+// The name of the element whose `<` stands at a place, as that part of the sheet.
+pub fn name_at(s: &[u8], start: usize) -> &[u8]
+    ensures { λ r. ⌜ now r ≡ nameAt (now (s .entry)) start ⌝ }
+{
+    if s.len() <= start {
+        return &s[..0];
+    }
+    let from = start + 1;
+    let to = name_end(s, from);
+    &s[from..to]
 }
 
 // The end of the text bytes from a place on.
@@ -99,4 +112,17 @@ pub fn parts_at(s: &[u8], start: usize) -> Parts
         text: is_text(peek(s, inside)),
         end,
     }
+}
+
+// How many names stand around an element at this depth, where the element before it has so many: those that `aroundAt` keeps.
+pub fn names_around(depth: usize, before: usize) -> usize
+    ensures { λ r. ⌜ r ≡ cond (ltb (depth - 1) before) (depth - 1) before ⌝ }
+{
+    if depth == 0 {
+        return 0;
+    }
+    if depth - 1 < before {
+        return depth - 1;
+    }
+    before
 }

@@ -25,3 +25,9 @@ SettledWith n ps r Post B lent =
 
 pub by-equations : {A B : Type 0} {x y z : A} {u v w : B} → (x ≡ z) × (u ≡ w) → (y ≡ z) × (v ≡ w) → (x ≡ y) × (u ≡ v)
 by-equations p q = (by-equation (p .0) (q .0), by-equation (p .1) (q .1))
+
+-- the same where the answer is a part of what was lent: what is shown of it is settled
+abbrev pub SettledShown : (n : ℕ) (ps : List (PK n)) (r : RK n) → Out n ps r → (B : Type 0) → ((κs : Lfts n) → resT r κs .Denot → B) → Type 0
+SettledShown n ps r Post B shown =
+    (κs : Lfts n) (a : Dens κs ps) (x y : resT r κs .Denot) (e f : AtExit (endedOf n ps r) κs)
+    → Post κs a x e → Post κs a y f → shown κs x ≡ shown κs y

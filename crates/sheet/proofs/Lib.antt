@@ -11,3 +11,4 @@ pub mod Runs
 pub mod Settled
 pub mod Tags
 pub mod Viability
+pub mod Within

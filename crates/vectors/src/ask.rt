@@ -3,7 +3,9 @@ use crate::words::number;
 use check::same;
 use libc::STDOUT_FILENO;
 use remainder::Mod97;
+use shape::field::Account;
 use shape::field::System;
+use shape::stored::Identifier;
 use shape::value::Value;
 use table::Kind;
 
@@ -16,7 +18,7 @@ pub fn put_number(n: u64) {
     io::print_decimal(STDOUT_FILENO, n);
 }
 
-fn put_value(v: Value) {
+pub fn put_value(v: Value) {
     match v {
         Value::Of(n) => put_number(n),
         Value::None => put(b" none"),
@@ -62,11 +64,29 @@ pub fn numbers(word: &[u8], text: &[u8]) {
 }
 
 fn iban(text: &[u8]) {
-    match remainder::remainder(text) {
+    put_remainder(remainder::remainder(text));
+    put_test(shape::field::is_iban(text));
+}
+
+pub fn put_account(account: Account) {
+    put_number(account.digit);
+    put_number(account.code);
+    put_number(account.currency);
+}
+
+pub fn put_remainder(iban: Mod97) {
+    match iban {
         Mod97::Of(n) => put_number(n),
         Mod97::NoIban => put(b" none"),
     }
-    put_test(shape::field::is_iban(text));
+}
+
+pub fn put_system(system: System) {
+    match system {
+        System::Sep => put(b" SEP"),
+        System::Asp => put(b" ASP"),
+        System::Neither => put(b" neither"),
+    }
 }
 
 // A UETR and an identifier in their stored form, an account, a message identifier, S, the name of a message.
@@ -80,10 +100,7 @@ pub fn identifiers(word: &[u8], text: &[u8]) {
         return;
     }
     if same(word, b"account") {
-        let a = shape::field::account_of(text);
-        put_number(a.digit);
-        put_number(a.code);
-        put_number(a.currency);
+        put_account(shape::field::account_of(text));
         return;
     }
     if same(word, b"message") {
@@ -91,11 +108,7 @@ pub fn identifiers(word: &[u8], text: &[u8]) {
         return;
     }
     if same(word, b"system") {
-        match shape::field::system_of(text) {
-            System::Sep => put(b" SEP"),
-            System::Asp => put(b" ASP"),
-            System::Neither => put(b" neither"),
-        }
+        put_system(shape::field::system_of(text));
         return;
     }
     if same(word, b"original") {
@@ -104,7 +117,7 @@ pub fn identifiers(word: &[u8], text: &[u8]) {
     }
 }
 
-fn put_hex(n: u64, width: usize) {
+pub fn put_hex(n: u64, width: usize) {
     put(b" ");
     io::print_hex(STDOUT_FILENO, n, width);
 }
@@ -117,7 +130,10 @@ fn uetr(text: &[u8]) {
 }
 
 fn identifier(text: &[u8]) {
-    let i = shape::stored::identifier_of(text);
+    put_stored(shape::stored::identifier_of(text));
+}
+
+pub fn put_stored(i: Identifier) {
     put_hex(i.first, 14);
     put_hex(i.second, 14);
     put_hex(i.third, 14);

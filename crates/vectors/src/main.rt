@@ -2,6 +2,7 @@
 // asked, a blank, and the text. The vectors stand in `stdin`, what they must give in `stdout`.
 // The program only takes lines apart and prints; all that is asked is answered by the proved libraries.
 mod ask;
+mod messages;
 mod sheets;
 mod slips;
 mod words;
@@ -11,6 +12,9 @@ use libc::STDOUT_FILENO;
 use words::line_end;
 use words::part;
 use words::word_end;
+
+// How many bytes of vectors are read.
+const VECTORS_MOST: usize = 524288;
 
 fn answer(line: &[u8]) {
     io::write_all(STDOUT_FILENO, line);
@@ -22,6 +26,7 @@ fn answer(line: &[u8]) {
     ask::codes(word, text);
     slips::ask(word, text);
     sheets::ask(word, text);
+    messages::ask(word, text);
     io::write_all(STDOUT_FILENO, b"\n");
 }
 
@@ -35,7 +40,7 @@ fn answer_all(s: &[u8]) {
 }
 
 fn main() {
-    let mut buffer = io::large_buffer();
+    let mut buffer = [0u8; VECTORS_MOST];
     let n = io::read_full(STDIN_FILENO, &mut buffer);
     answer_all(&buffer[..n]);
 }

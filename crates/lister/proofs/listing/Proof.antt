@@ -6,7 +6,8 @@ use borrow.Author.Tests.{not-true, not-false}
 use Rattle.shape.specs.Text.{bytes}
 use Rattle.lister.specs.Listing.{decimalText}
 use Rattle.lister.proofs.Written.{wrote-then, wrote-as}
-use Rattle.lister.proofs.Whole.{within, listed-refused, listed-accepted}
+use Rattle.sheet.proofs.Within.{within}
+use Rattle.lister.proofs.Whole.{listed-refused, listed-accepted}
 use borrow.Author.Needs.{needs}
 use Rattle.lister.proofs.listing.Statement.{statement}
 use Rattle.lister.proofs.listing.Tie as tie

@@ -6,7 +6,8 @@ use lib.ListN.{length, getD, length-set}
 use Rattle.outline.specs.Rows.{rowsOf, textAt}
 use Rattle.lister.specs.Listing.{linesOf, fieldsOf}
 use Rattle.lister.proofs.Written.{Still, still-less, still-nothing}
-use Rattle.lister.proofs.Lines.{rowsLeft, lines-begin, fields-begin, lines-end, fields-end, turn, holds-one, around-low}
+use Rattle.lister.proofs.Lines.{rowsLeft, lines-begin, fields-begin, lines-end, fields-end, turn, holds-one}
+use Rattle.outline.proofs.Walk.{around-low}
 use Rattle.lister.proofs.put_lines.Statement.{statement}
 use Rattle.lister.proofs.put_lines.Tie as tie
 
@@ -27,26 +28,26 @@ mul-start c = omega arith
 element-copy-out-start : tie.Need-element-copy-out-start Inv-loop μ-loop
 element-copy-out-start c = omega arith
 
-mul-around : tie.Need-mul-around Inv-loop μ-loop
-mul-around c = omega arith
+mul-names-around : tie.Need-mul-names-around Inv-loop μ-loop
+mul-names-around c = omega arith
 
-element-copy-out-around : tie.Need-element-copy-out-around Inv-loop μ-loop
-element-copy-out-around c = omega arith
+element-copy-out-names-around : tie.Need-element-copy-out-names-around Inv-loop μ-loop
+element-copy-out-names-around c = omega arith
 
-around-requires : tie.Need-around-requires Inv-loop μ-loop
-around-requires c κs = tt
+names-around-requires : tie.Need-names-around-requires Inv-loop μ-loop
+names-around-requires c κs = tt
 
 mul-stack : tie.Need-mul-stack Inv-loop μ-loop
-mul-stack c = omega (arith, around-low (c .around .result) (getD (c .before .before .before .before .before .before .before .args .depths .now) (c .before .before .before .before .loop .k) 0 - 1) (c .before .before .before .before .loop .level) (c .around .ensures))
+mul-stack c = omega (arith, around-low (c .names-around .result) (getD (c .before .before .before .before .before .before .before .args .depths .now) (c .before .before .before .before .loop .k) 0 - 1) (c .before .before .before .before .loop .level) (c .names-around .ensures))
 
 array-write-stack : tie.Need-array-write-stack Inv-loop μ-loop
-array-write-stack c = omega (arith, around-low (c .around .result) (getD (c .before .before .before .before .before .before .before .args .depths .now) (c .before .before .before .before .loop .k) 0 - 1) (c .before .before .before .before .loop .level) (c .around .ensures))
+array-write-stack c = omega (arith, around-low (c .names-around .result) (getD (c .before .before .before .before .before .before .before .args .depths .now) (c .before .before .before .before .loop .k) 0 - 1) (c .before .before .before .before .loop .level) (c .names-around .ensures))
 
 add-level : tie.Need-add-level Inv-loop μ-loop
-add-level c = omega (arith, around-low (c .around .result) (getD (c .before .before .before .before .before .before .before .args .depths .now) (c .before .before .before .before .loop .k) 0 - 1) (c .before .before .before .before .loop .level) (c .around .ensures))
+add-level c = omega (arith, around-low (c .names-around .result) (getD (c .before .before .before .before .before .before .before .args .depths .now) (c .before .before .before .before .loop .k) 0 - 1) (c .before .before .before .before .loop .level) (c .names-around .ensures))
 
 put-line-requires : tie.Need-put-line-requires Inv-loop μ-loop
-put-line-requires c κs = omega (arith, around-low (c .before .before .around .result) (getD (c .before .before .before .before .before .before .before .before .before .args .depths .now) (c .before .before .before .before .before .before .loop .k) 0 - 1) (c .before .before .before .before .before .before .loop .level) (c .before .before .around .ensures))
+put-line-requires c κs = omega (arith, around-low (c .before .before .names-around .result) (getD (c .before .before .before .before .before .before .before .before .before .args .depths .now) (c .before .before .before .before .before .before .loop .k) 0 - 1) (c .before .before .before .before .before .before .loop .level) (c .before .before .names-around .ensures))
 
 texts-at-requires : tie.Need-texts-at-requires Inv-loop μ-loop
 texts-at-requires c κs = tt
@@ -61,11 +62,11 @@ loop-less : tie.Need-loop-less Inv-loop μ-loop
 loop-less c = omega arith
 
 loop-again : tie.Need-loop-again Inv-loop μ-loop
-loop-again c = let low = around-low (c .before .before .before .before .before .before .around .result) (getD (c .before .before .before .before .before .before .before .before .before .before .before .before .before .args .depths .now) (c .before .before .before .before .before .before .before .before .before .before .loop .k) 0 - 1) (c .before .before .before .before .before .before .before .before .before .before .loop .level) (c .before .before .before .before .before .before .around .ensures) in
+loop-again c = let low = around-low (c .before .before .before .before .before .before .names-around .result) (getD (c .before .before .before .before .before .before .before .before .before .before .before .before .before .args .depths .now) (c .before .before .before .before .before .before .before .before .before .before .loop .k) 0 - 1) (c .before .before .before .before .before .before .before .before .before .before .loop .level) (c .before .before .before .before .before .before .names-around .ensures) in
     let one = holds-one (textAt (c .before .before .before .before .before .before .before .before .before .before .before .before .before .args .s .now) (getD (c .before .before .before .before .before .before .before .before .before .before .before .before .before .args .starts .now) (c .before .before .before .before .before .before .before .before .before .before .loop .k) 0)) in
-    let rest = turn (c .before .before .before .before .before .before .before .before .before .before .before .before .before .args .s .now) (c .before .before .before .before .before .before .before .before .before .before .before .before .before .args .count) (c .before .before .before .before .before .before .before .before .before .before .before .before .before .args .starts .now) (c .before .before .before .before .before .before .before .before .before .before .before .before .before .args .depths .now) (c .before .before .before .before .before .before .before .before .before .before .loop .stack) (c .before .before .before .before .before .before .before .before .before .before .loop .level) (c .before .before .before .before .before .before .before .before .before .before .loop .k) (c .before .before .before .before .before .before .around .result) (omega (arith, c .before .before .before .before .before .before .before .before .before .before .loop .inv .1)) (c .before .before .before .before .before .before .around .ensures) (c .before .before .before .before .before .before .before .before .before .loop-test .taken) (omega (arith, c .before .before .before .before .before .before .before .before .before .before .before .before .before .pre .1)) (omega (arith, c .before .before .before .before .before .before .before .before .before .before .before .before .before .pre .2)) in (
+    let rest = turn (c .before .before .before .before .before .before .before .before .before .before .before .before .before .args .s .now) (c .before .before .before .before .before .before .before .before .before .before .before .before .before .args .count) (c .before .before .before .before .before .before .before .before .before .before .before .before .before .args .starts .now) (c .before .before .before .before .before .before .before .before .before .before .before .before .before .args .depths .now) (c .before .before .before .before .before .before .before .before .before .before .loop .stack) (c .before .before .before .before .before .before .before .before .before .before .loop .level) (c .before .before .before .before .before .before .before .before .before .before .loop .k) (c .before .before .before .before .before .before .names-around .result) (omega (arith, c .before .before .before .before .before .before .before .before .before .before .loop .inv .1)) (c .before .before .before .before .before .before .names-around .ensures) (c .before .before .before .before .before .before .before .before .before .loop-test .taken) (omega (arith, c .before .before .before .before .before .before .before .before .before .before .before .before .before .pre .1)) (omega (arith, c .before .before .before .before .before .before .before .before .before .before .before .before .before .pre .2)) in (
       c .before .before .before .put-line .kept .0 ∙ c .before .before .before .before .before .before .before .before .before .before .loop .inv .0,
-      length-set (c .before .before .before .before .before .before .before .before .before .before .loop .stack) (c .before .before .before .before .before .before .around .result) (getD (c .before .before .before .before .before .before .before .before .before .before .before .before .before .args .starts .now) (c .before .before .before .before .before .before .before .before .before .before .loop .k) 0) ∙ c .before .before .before .before .before .before .before .before .before .before .loop .inv .1,
+      length-set (c .before .before .before .before .before .before .before .before .before .before .loop .stack) (c .before .before .before .before .before .before .names-around .result) (getD (c .before .before .before .before .before .before .before .before .before .before .before .before .before .args .starts .now) (c .before .before .before .before .before .before .before .before .before .before .loop .k) 0) ∙ c .before .before .before .before .before .before .before .before .before .before .loop .inv .1,
       omega arith,
       omega arith,
       omega (arith, c .texts-at .ensures),
@@ -88,9 +89,9 @@ put-lines-spec =
     loop-holds
     mul-start
     element-copy-out-start
-    mul-around
-    element-copy-out-around
-    around-requires
+    mul-names-around
+    element-copy-out-names-around
+    names-around-requires
     mul-stack
     array-write-stack
     add-level

@@ -3,7 +3,8 @@ use native.Mathlib.Omega.{arith}
 use borrow.Author.Tests.{not-true, not-false}
 use Rattle.lister.proofs.Written.{wrote-nothing, wrote-then, wrote-as}
 use Rattle.lister.specs.Writing.{namesOf}
-use Rattle.lister.proofs.Parts.{text-there, text-missing, line-there}
+use Rattle.outline.proofs.Shown.{text-there, text-missing}
+use Rattle.lister.proofs.Parts.{line-there}
 use borrow.Author.Needs.{needs}
 use Rattle.lister.proofs.row.put_line.Statement.{statement}
 use Rattle.lister.proofs.row.put_line.Tie as tie

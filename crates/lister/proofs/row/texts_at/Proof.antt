@@ -1,5 +1,5 @@
 -- Of an element that is cut off, the text is missing by the definition too.
-use Rattle.lister.proofs.Parts.{text-there, text-missing}
+use Rattle.outline.proofs.Shown.{text-there, text-missing}
 use borrow.Author.Needs.{needs}
 use Rattle.lister.proofs.row.texts_at.Statement.{statement}
 use Rattle.lister.proofs.row.texts_at.Tie as tie

@@ -1,0 +1,16 @@
+pub mod Absent
+pub mod Amounts
+pub mod Built
+pub mod Entries
+pub mod FieldShown
+pub mod Filled
+pub mod Held
+pub mod Judged
+pub mod Lowest
+pub mod OfRows
+pub mod Parted
+pub mod Settled
+pub mod Stands
+pub mod Tables
+pub mod Turns
+pub mod Whole

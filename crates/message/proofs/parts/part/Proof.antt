@@ -1,0 +1,51 @@
+-- Both tests together say whether the part fits, without a sum that could be too large.
+use native.Mathlib.Omega.{arith}
+use Rattle.message.proofs.Parted.{part-short, part-whole}
+use borrow.Author.Needs.{needs}
+use Rattle.message.proofs.parts.part.Statement.{statement}
+use Rattle.message.proofs.parts.part.Tie as tie
+
+slice-aggregate-result : tie.Need-slice-aggregate-result
+slice-aggregate-result c = search needs
+
+returns : tie.Need-returns
+returns c = part-short (c .before .before .args .s .now) (c .before .before .args .start) (c .before .before .args .length) (omega arith)
+
+sub-if2 : tie.Need-sub-if2
+sub-if2 c = search needs
+
+slice-aggregate-result-2 : tie.Need-slice-aggregate-result-2
+slice-aggregate-result-2 c = search needs
+
+returns-2 : tie.Need-returns-2
+returns-2 c = part-short (c .before .before .before .args .s .now) (c .before .before .before .args .start) (c .before .before .before .args .length) (omega arith)
+
+add-end : tie.Need-add-end
+add-end c = search needs
+
+sub-result : tie.Need-sub-result
+sub-result c = search needs
+
+part-result-start : tie.Need-part-result-start
+part-result-start c = search needs
+
+part-result-end : tie.Need-part-result-end
+part-result-end c = search needs
+
+returns-3 : tie.Need-returns-3
+returns-3 c = part-whole (c .before .before .before .args .s .now) (c .before .before .before .args .start) (c .before .before .before .args .length) (omega arith)
+
+pub part-spec : {M : Type 1} → statement M
+part-spec =
+    tie.close
+    (tie.spec
+    slice-aggregate-result
+    returns
+    sub-if2
+    slice-aggregate-result-2
+    returns-2
+    add-end
+    sub-result
+    part-result-start
+    part-result-end
+    returns-3)

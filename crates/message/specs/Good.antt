@@ -1,0 +1,74 @@
+-- When a field is good, and the first that is not: document 01, "Fields" and refusal 8.
+-- A field is bad where it is missing and may not be, where its path stands more than once, and where it is ill-shaped: it holds elements, it
+-- has a Ccy and is no amount or has none and is one, or its text is not of its shape.
+use mathlib.Core.Bool.{Bool, true, false, _&&_, _||_, cond}
+use mathlib.Core.List.{List, [], _∷_}
+use mathlib.Core.Option.{Option, none, some}
+use Prim.Native.Nat.{ℕ, suc}
+use Rattle.shape.specs.Text.{bytes}
+use Rattle.shape.specs.Patterns.{fits, sepPattern, aspPattern, accountPattern}
+use Rattle.shape.specs.Dates.{timeOf}
+use Rattle.shape.specs.Fields.{codeOf, isAmount, isIban, isIdentifier, namesPacs008}
+use Rattle.shape.specs.Stored.{isUetr}
+use Rattle.shape.specs.declared.value.Value.{Value}
+use Rattle.shape.specs.declared.value.Value.the-variants.{Of, None}
+use Rattle.outline.specs.Rows.{Row}
+use Rattle.outline.specs.Paths.{charactersOf}
+use Rattle.message.specs.declared.kinds.Shape.{Shape}
+use Rattle.message.specs.declared.kinds.Shape.the-variants.{Identifier, Time, Code, System, Uetr, Amount, Iban, Account, Original}
+use Rattle.message.specs.declared.kinds.Ccy.{Ccy}
+use Rattle.message.specs.declared.kinds.Ccy.the-variants.{Absent, Any, Hryvnia}
+use Rattle.message.specs.Fields.{Field}
+
+-- what stands at a field's path: nothing; one element, with its Ccy, where its content begins, and its text; or more than one
+pub data Held : Type 0 where
+  missing : Held
+  once : Option (List ℕ) → ℕ → Option (List ℕ) → Held
+  doubled : Held
+
+unfoldable pub heldIn : List Row → Held
+heldIn [] = missing
+heldIn (row ∷ []) = once (row .ccy) (row .inside) (row .text)
+heldIn (row ∷ second ∷ rows) = doubled
+
+-- a value is given
+abbrev pub isGiven : Value → Bool
+isGiven (Of n) = true
+isGiven None = false
+
+-- the characters have the shape
+unfoldable pub hasShape : Shape → List ℕ → Bool
+hasShape Identifier s = isIdentifier s
+hasShape Time s = isGiven (timeOf s)
+hasShape Code s = isGiven (codeOf s)
+hasShape System s = fits sepPattern s || fits aspPattern s
+hasShape Uetr s = isUetr s
+hasShape Amount s = isAmount s
+hasShape Iban s = isIban s
+hasShape Account s = fits accountPattern s
+hasShape Original s = namesPacs008 s
+
+-- a Ccy on amounts alone; in pacs.008 that of the hryvnia
+unfoldable pub ccyFits : Ccy → Option (List ℕ) → Bool
+ccyFits Absent none = true
+ccyFits Absent (some ccy) = false
+ccyFits Any none = false
+ccyFits Any (some ccy) = true
+ccyFits Hryvnia none = false
+ccyFits Hryvnia (some ccy) = fits (bytes "UAH") ccy
+
+-- an element without a text holds elements
+unfoldable pub textFits : Shape → Option (List ℕ) → Bool
+textFits shape none = false
+textFits shape (some text) = hasShape shape (charactersOf text)
+
+unfoldable pub isGood : Bool → Shape → Ccy → Held → Bool
+isGood optional shape ccy missing = optional
+isGood optional shape ccy (once given inside text) = ccyFits ccy given && textFits shape text
+isGood optional shape ccy doubled = false
+
+-- the number of the first bad field, where the fields are numbered from k on and hold this; 0 where all are good
+unfoldable pub firstBad : ℕ → List Field → List Held → ℕ
+firstBad k [] held = 0
+firstBad k (f ∷ fields) [] = 0
+firstBad k (f ∷ fields) (h ∷ held) = cond (isGood (f .optional) (f .shape) (f .ccy) h) (firstBad (suc k) fields held) k

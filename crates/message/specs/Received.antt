@@ -1,0 +1,108 @@
+-- What a sheet is received as: a refusal by 7 or 8, or the message, with the place of each field's text by the field's number.
+use mathlib.Core.Bool.{cond}
+use mathlib.Core.List.{List, [], _∷_, _++_, map}
+use mathlib.Core.Path.{_≡_}
+use Prim.Native.Nat.{ℕ, _+_, _-_}
+use lib.Dec.{eqb, leb}
+use lib.ListN.{length, getD, replicate, take, drop}
+use Rattle.sheet.specs.Answer.{Reading, accepted, refused, readingOf}
+use Rattle.outline.specs.Rows.{Row, rowsOf}
+use Rattle.outline.specs.Paths.{samePath, standing, atDepth}
+use Rattle.table.specs.declared.Kind.{Kind}
+use Rattle.table.specs.declared.Kind.the-variants.{Pacs008, Camt050, Pacs028}
+use Rattle.message.specs.declared.kinds.Body.{Body}
+use Rattle.message.specs.declared.kinds.Body.the-variants.{Of, Unknown}
+use Rattle.message.specs.declared.Answer.{Answer}
+use Rattle.message.specs.declared.Answer.the-variants.{IllFormed, BadField, Good}
+use Rattle.message.specs.declared.Received.{Received}
+use Rattle.message.specs.Fields.{Field, fieldsOf, bodyOf}
+use Rattle.message.specs.Good.{Held, heldIn, firstBad}
+use Rattle.message.specs.Message.{textIn, startIn, lengthIn, numbered, messageOf}
+
+-- the number of an answer in the table of refusals, and its detail: the place, the field
+abbrev pub numberOf : Answer → ℕ × ℕ
+numberOf (IllFormed place) = (7, place)
+numberOf (BadField number) = (8, number)
+numberOf (Good message) = (0, 0)
+
+-- the kind that a path names
+unfoldable pub kindNamed : List (List ℕ) → Body
+kindNamed path =
+    cond (samePath path (bodyOf Pacs008)) (Of Pacs008)
+    (cond (samePath path (bodyOf Camt050)) (Of Camt050)
+    (cond (samePath path (bodyOf Pacs028)) (Of Pacs028)
+    Unknown))
+
+-- the outer element is Document and its only child names the kind
+unfoldable pub onlyKind : List Row → Body
+onlyKind [] = Unknown
+onlyKind (row ∷ []) = kindNamed (row .path)
+onlyKind (row ∷ second ∷ rows) = Unknown
+
+unfoldable pub kindOf : List Row → Body
+kindOf rows = onlyKind (atDepth 2 rows)
+
+-- what each field of a kind holds. Elements at no field's path are ignored
+unfoldable pub heldOf : Kind → List Row → List Held
+heldOf kind rows = map (λ (f : Field). heldIn (standing (f .path) rows)) (fieldsOf kind)
+
+-- the most fields that a kind has
+abbrev pub fieldsMost : ℕ
+fieldsMost = 14
+
+-- by the number of a field: at 0, and behind the last field, 0
+abbrev pub byNumber : List ℕ → List ℕ
+byNumber values = 0 ∷ (values ++ replicate (fieldsMost - length values) 0)
+
+abbrev pub nothing : List ℕ
+nothing = byNumber []
+
+abbrev pub refusal : Answer → Received
+refusal answer = record { answer = answer; starts = nothing; lengths = nothing }
+
+-- 8 with the lowest number of a bad field; else the message
+abbrev pub judged : Kind → List Held → ℕ → Received
+judged kind held bad =
+    cond (eqb bad 0)
+    (record { answer = Good (messageOf kind held); starts = byNumber (map startIn held); lengths = byNumber (map lengthIn held) })
+    (refusal (BadField bad))
+
+unfoldable pub receivedIn : Kind → List Held → Received
+receivedIn kind held = judged kind held (firstBad 1 (fieldsOf kind) held)
+
+-- 8 with 0 where the message is unknown
+unfoldable pub receivedAs : Body → List Row → Received
+receivedAs Unknown rows = refusal (BadField 0)
+receivedAs (Of kind) rows = receivedIn kind (heldOf kind rows)
+
+-- 7 with the place where the sheet is ill-formed
+unfoldable pub receivedFrom : List ℕ → Reading → Received
+receivedFrom s (refused place) = refusal (IllFormed place)
+receivedFrom s (accepted n starts depths) = receivedAs (kindOf (rowsOf s n starts depths)) (rowsOf s n starts depths)
+
+unfoldable pub receivedOf : List ℕ → Received
+receivedOf s = receivedFrom s (readingOf s)
+
+-- the part of a sheet from a place on, of a length; nothing where the sheet is too short for it
+unfoldable pub partOf : List ℕ → ℕ → ℕ → List ℕ
+partOf s a n = cond (leb (a + n) (length s)) (take n (drop a s)) []
+
+-- the part that is shown as the field with a number
+unfoldable pub shownIn : List ℕ → List ℕ → List ℕ → ℕ → List ℕ
+shownIn s starts lengths k = partOf s (getD starts k 0) (getD lengths k 0)
+
+-- and of what was received: no field has a number above 14
+unfoldable pub fieldShown : List ℕ → Received → ℕ → List ℕ
+fieldShown s received k = cond (leb k fieldsMost) (shownIn s (received .starts) (received .lengths) k) []
+
+-- the text of the field with a number in the message that a sheet is; nothing where it is no message, or the field is not given
+unfoldable pub fieldAs : Body → List Row → ℕ → List ℕ
+fieldAs Unknown rows k = []
+fieldAs (Of kind) rows k = cond (eqb (firstBad 1 (fieldsOf kind) (heldOf kind rows)) 0) (textIn (numbered (heldOf kind rows) k)) []
+
+unfoldable pub fieldFrom : List ℕ → Reading → ℕ → List ℕ
+fieldFrom s (refused place) k = []
+fieldFrom s (accepted n starts depths) k = fieldAs (kindOf (rowsOf s n starts depths)) (rowsOf s n starts depths) k
+
+unfoldable pub fieldOf : List ℕ → ℕ → List ℕ
+fieldOf s k = fieldFrom s (readingOf s) k

@@ -1,0 +1,89 @@
+// Whether a field is good: document 01, "Fields" and its shapes.
+use crate::kinds::Ccy;
+use crate::kinds::Entry;
+use crate::kinds::Shape;
+use outline::parts_at;
+use shape::date::time_of;
+use shape::field::code_of;
+use shape::field::is_amount;
+use shape::field::is_iban;
+use shape::field::is_identifier;
+use shape::field::names_pacs_008;
+use shape::pattern::matches;
+use shape::stored::is_uetr;
+use shape::value::Value;
+ghost use mathlib.Core.Path.{_≡_};
+ghost use mathlib.Core.Bool.{true, cond};
+ghost use mathlib.Core.Option.{some, none};
+ghost use Prim.Native.Nat.{_+_, _≤_};
+ghost use lib.ListN.{length, take, drop};
+ghost use Rattle.message.specs.Good.{isGiven, hasShape, ccyFits, isGood};
+ghost use Rattle.message.specs.Seen.{heldAt};
+
+fn is_given(value: Value) -> bool
+    ensures { λ r. ⌜ r ≡ isGiven value ⌝ }
+{
+    match value {
+        Value::Of(_n) => true,
+        Value::None => false,
+    }
+}
+
+// Whether the characters of a text have a shape.
+fn has_shape(shape: Shape, s: &[u8]) -> bool
+    ensures { λ r. ⌜ r ≡ hasShape shape (now (s .entry)) ⌝ }
+{
+    match shape {
+        Shape::Identifier => is_identifier(s),
+        Shape::Time => is_given(time_of(s)),
+        Shape::Code => is_given(code_of(s)),
+        Shape::System => matches(b"SEP", s) | matches(b"ASP", s),
+        Shape::Uetr => is_uetr(s),
+        Shape::Amount => is_amount(s),
+        Shape::Iban => is_iban(s),
+        Shape::Account => matches(b"#######^^^", s),
+        Shape::Original => names_pacs_008(s),
+    }
+}
+
+// Whether a Ccy is wanted and given, or neither. The Ccy's three bytes stand six behind the end of the element's name.
+fn ccy_fits(s: &[u8], wanted: Ccy, given: bool, to: usize) -> bool
+    requires { ⌜ (given ≡ true → to + 9 ≤ length (now s)) ⌝ }
+    ensures { λ r. ⌜ r ≡ ccyFits wanted (cond given (some (take 3 (drop (to + 6) (now (s .entry))))) none) ⌝ }
+{
+    if !given {
+        return match wanted {
+            Ccy::Absent => true,
+            Ccy::Any => false,
+            Ccy::Hryvnia => false,
+        };
+    }
+    let from = to + 6;
+    let end = to + 9;
+    match wanted {
+        Ccy::Absent => false,
+        Ccy::Any => true,
+        Ccy::Hryvnia => matches(b"UAH", &s[from..end]),
+    }
+}
+
+// Whether a field is good whose path is counted so often and starts there.
+pub fn is_good(s: &[u8], e: Entry, count: usize, start: usize) -> bool
+    ensures { λ r. ⌜ r ≡ isGood (e .optional) (e .shape) (e .ccy) (heldAt (now (s .entry)) count start) ⌝ }
+{
+    if count == 0 {
+        return e.optional;
+    }
+    if count != 1 {
+        return false;
+    }
+    let parts = parts_at(s, start);
+    if !parts.text {
+        return false;
+    }
+    let wanted = e.ccy;
+    let shape = e.shape;
+    let from = parts.inside;
+    let end = parts.end;
+    ccy_fits(s, wanted, parts.ccy, parts.to) & has_shape(shape, &s[from..end])
+}

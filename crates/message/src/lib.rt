@@ -1,0 +1,313 @@
+// The message that a sheet is: its kind and its fields, or the refusal by 7 or 8. Document 01, "Fields".
+// It knows nothing of rooms, participants and checks. The tables of fields stand in `specs/Fields.antt`, when a field is bad in
+// `specs/Good.antt`, what a message is in `specs/Message.antt`, and the answer in `specs/Received.antt`.
+
+mod fit;
+mod kinds;
+mod parts;
+
+use fit::is_good;
+use kinds::Body;
+use kinds::by_kind;
+use kinds::entry_at;
+use kinds::field_count;
+use kinds::kind_of;
+use parts::ccy_of;
+use parts::part;
+use parts::spot_of;
+use paths::survey;
+use remainder::Mod97;
+use remainder::remainder;
+use shape::date::time_of;
+use shape::field::Account;
+use shape::field::System;
+use shape::field::account_of;
+use shape::field::amount_of;
+use shape::field::code_of;
+use shape::field::currency_of;
+use shape::field::message_code_of;
+use shape::field::system_of;
+use shape::stored::Identifier;
+use shape::stored::Uetr;
+use shape::stored::identifier_of;
+use shape::stored::uetr_of;
+use shape::value::Value;
+use table::Kind;
+ghost use mathlib.Core.Path.{_≡_};
+ghost use mathlib.Core.List.{map};
+ghost use Prim.Native.Nat.{_≤_};
+ghost use lib.ListN.{length};
+ghost use Rattle.message.specs.Fields.{fieldsOf, byKind};
+ghost use Rattle.shape.specs.Fields.{currencyOf};
+ghost use Rattle.message.specs.Good.{firstBad};
+ghost use Rattle.message.specs.Message.{nameOf, agentOf, startIn, lengthIn, ccyIn, numbered, amountNumber, messageFrom};
+ghost use Rattle.message.specs.Received.{refusal, byNumber, receivedIn, receivedOf, shownIn, fieldShown, fieldOf};
+ghost use Rattle.message.specs.Seen.{heldSeen};
+
+// A message identifier: as it is stored, and the code in front of it where it is a good one.
+pub struct Name {
+    pub stored: Identifier,
+    pub code: Value,
+}
+
+// An agent: which system lists it, and its code.
+pub struct Agent {
+    pub system: System,
+    pub code: Value,
+}
+
+// A message. A part that its kind lacks, and PrvsInstgAgt1 where it is not given, is None, Neither, NoIban or zeros.
+pub struct Message {
+    pub kind: Kind,
+    // MsgId
+    pub id: Name,
+    // CreDtTm
+    pub created: Value,
+    // InstgAgt and InstdAgt
+    pub instructing: Value,
+    pub instructed: Value,
+    // EndToEndId, OrgnlEndToEndId
+    pub reference: Identifier,
+    // UETR, OrgnlUETR
+    pub uetr: Uetr,
+    // IntrBkSttlmAmt, TrfdAmt, in kopecks, and its Ccy
+    pub amount: Value,
+    pub currency: Value,
+    // PrvsInstgAgt1
+    pub previous: Value,
+    // DbtrAgt and CdtrAgt
+    pub debtor: Agent,
+    pub creditor: Agent,
+    // What the IBAN of CdtrAcct leaves.
+    pub iban: Mod97,
+    // DbtrAcct and CdtrAcct of a camt.050
+    pub debit: Account,
+    pub credit: Account,
+    // OrgnlMsgId
+    pub original: Name,
+    // OrgnlCreDtTm
+    pub originated: Value,
+}
+
+// What a sheet is: refused by 7 with its place, refused by 8 with a field's number, or a message.
+pub enum Answer {
+    IllFormed(usize),
+    BadField(usize),
+    Good(Message),
+}
+
+// The answer to a sheet and, of a message, where the text of each field starts and how long it is, by the field's number. At 0, behind the
+// kind's last field and for a field that is not given there are zeros.
+pub struct Received {
+    pub answer: Answer,
+    pub starts: [usize; 15],
+    pub lengths: [usize; 15],
+}
+
+// Where the texts of the fields stand.
+struct Spots {
+    starts: [usize; 15],
+    lengths: [usize; 15],
+}
+
+fn refused(answer: Answer) -> Received
+    ensures { λ r. ⌜ r ≡ refusal answer ⌝ }
+{
+    Received {
+        answer,
+        starts: [0; 15],
+        lengths: [0; 15],
+    }
+}
+
+// The lowest number of a bad field, 0 where all are good.
+fn first_bad(s: &[u8], kind: Kind, counts: &[usize; 73], starts: &[usize; 73]) -> usize
+    requires { ⌜ (73 ≤ length (now counts)) × (73 ≤ length (now starts)) ⌝ }
+    ensures { λ r. ⌜ r ≡ firstBad 1 (fieldsOf kind) (heldSeen (now (s .entry)) kind (now (counts .entry)) (now (starts .entry))) ⌝ }
+{
+    let n = field_count(kind);
+    let mut k = 0;
+    while k < n {
+        let e = entry_at(kind, k);
+        let node = e.node;
+        if !is_good(s, e, counts[node], starts[node]) {
+            return k + 1;
+        }
+        k += 1;
+    }
+    0
+}
+
+// Where the text of each field stands.
+fn spots_of(s: &[u8], kind: Kind, counts: &[usize; 73], starts: &[usize; 73]) -> Spots
+    requires { ⌜ (73 ≤ length (now counts)) × (73 ≤ length (now starts)) ⌝ }
+    ensures { λ r. ⌜ r .starts ≡ byNumber (map startIn (heldSeen (now (s .entry)) kind (now (counts .entry)) (now (starts .entry)))) ⌝ }
+    ensures { λ r. ⌜ r .lengths ≡ byNumber (map lengthIn (heldSeen (now (s .entry)) kind (now (counts .entry)) (now (starts .entry)))) ⌝ }
+{
+    let n = field_count(kind);
+    let mut places = [0usize; 15];
+    let mut lengths = [0usize; 15];
+    let mut k = 0;
+    while k < n {
+        let e = entry_at(kind, k);
+        let node = e.node;
+        let at = spot_of(s, counts[node], starts[node]);
+        k += 1;
+        places[k] = at.start;
+        lengths[k] = at.length;
+    }
+    Spots {
+        starts: places,
+        lengths,
+    }
+}
+
+// The currency of the amount, where the kind has one.
+fn currency(s: &[u8], kind: Kind, counts: &[usize; 73], starts: &[usize; 73]) -> Value
+    requires { ⌜ (73 ≤ length (now counts)) × (73 ≤ length (now starts)) ⌝ }
+    ensures { λ r. ⌜ r ≡ currencyOf (ccyIn (numbered (heldSeen (now (s .entry)) kind (now (counts .entry)) (now (starts .entry))) (amountNumber kind))) ⌝ }
+{
+    let number = by_kind(kind, 7, 4, 0);
+    if number == 0 {
+        return Value::None;
+    }
+    let e = entry_at(kind, number - 1);
+    let node = e.node;
+    currency_of(ccy_of(s, counts[node], starts[node]))
+}
+
+// The field with a number as that part of the sheet.
+fn shown<'a>(s: &'a [u8], starts: &[usize; 15], lengths: &[usize; 15], number: usize) -> &'a [u8]
+    requires { ⌜ (15 ≤ length (now starts)) × (15 ≤ length (now lengths)) × (number ≤ 14) ⌝ }
+    ensures { λ r. ⌜ now r ≡ shownIn (now (s .entry)) (now (starts .entry)) (now (lengths .entry)) number ⌝ }
+{
+    part(s, starts[number], lengths[number])
+}
+
+fn name_of(s: &[u8]) -> Name
+    ensures { λ r. ⌜ r ≡ nameOf (now (s .entry)) ⌝ }
+{
+    Name {
+        stored: identifier_of(s),
+        code: message_code_of(s),
+    }
+}
+
+fn agent_of(system: &[u8], code: &[u8]) -> Agent
+    ensures { λ r. ⌜ r ≡ agentOf (now (system .entry)) (now (code .entry)) ⌝ }
+{
+    Agent {
+        system: system_of(system),
+        code: code_of(code),
+    }
+}
+
+// The characters of the field that has these numbers in pacs.008, camt.050 and pacs.028. They are the part's own bytes.
+fn text<'a>(
+    s: &'a [u8],
+    kind: Kind,
+    starts: &[usize; 15],
+    lengths: &[usize; 15],
+    pacs_008: usize,
+    camt_050: usize,
+    pacs_028: usize,
+) -> &'a [u8]
+    requires { ⌜ (15 ≤ length (now starts)) × (15 ≤ length (now lengths)) × (pacs_008 ≤ 14) × (camt_050 ≤ 14) × (pacs_028 ≤ 14) ⌝ }
+    ensures { λ r. ⌜ now r ≡ shownIn (now (s .entry)) (now (starts .entry)) (now (lengths .entry)) (byKind kind pacs_008 camt_050 pacs_028) ⌝ }
+{
+    shown(
+        s,
+        starts,
+        lengths,
+        by_kind(kind, pacs_008, camt_050, pacs_028),
+    )
+}
+
+// The message, by the places of its fields' texts. The numbers are those of `messageFrom`.
+fn message_of(
+    s: &[u8],
+    kind: Kind,
+    at: &[usize; 15],
+    long: &[usize; 15],
+    currency: Value,
+) -> Message
+    requires { ⌜ (15 ≤ length (now at)) × (15 ≤ length (now long)) ⌝ }
+    ensures { λ r. ⌜ r ≡ messageFrom kind (shownIn (now (s .entry)) (now (at .entry)) (now (long .entry))) currency ⌝ }
+{
+    Message {
+        kind,
+        id: name_of(text(s, kind, at, long, 1, 1, 1)),
+        created: time_of(text(s, kind, at, long, 2, 2, 2)),
+        instructing: code_of(text(s, kind, at, long, 3, 0, 3)),
+        instructed: code_of(text(s, kind, at, long, 4, 0, 0)),
+        reference: identifier_of(text(s, kind, at, long, 5, 0, 8)),
+        uetr: uetr_of(text(s, kind, at, long, 6, 3, 7)),
+        amount: amount_of(text(s, kind, at, long, 7, 4, 0)),
+        currency,
+        previous: code_of(text(s, kind, at, long, 8, 0, 0)),
+        debtor: agent_of(
+            text(s, kind, at, long, 9, 0, 0),
+            text(s, kind, at, long, 10, 0, 0),
+        ),
+        creditor: agent_of(
+            text(s, kind, at, long, 12, 0, 0),
+            text(s, kind, at, long, 13, 0, 0),
+        ),
+        iban: remainder(text(s, kind, at, long, 14, 0, 0)),
+        debit: account_of(text(s, kind, at, long, 0, 5, 0)),
+        credit: account_of(text(s, kind, at, long, 0, 6, 0)),
+        original: name_of(text(s, kind, at, long, 0, 0, 4)),
+        originated: time_of(text(s, kind, at, long, 0, 0, 6)),
+    }
+}
+
+// A message of a known kind: 8 with its first bad field, or the message.
+fn receive_as(s: &[u8], kind: Kind, counts: &[usize; 73], starts: &[usize; 73]) -> Received
+    requires { ⌜ (73 ≤ length (now counts)) × (73 ≤ length (now starts)) ⌝ }
+    ensures { λ r. ⌜ r ≡ receivedIn kind (heldSeen (now (s .entry)) kind (now (counts .entry)) (now (starts .entry))) ⌝ }
+{
+    let bad = first_bad(s, kind, counts, starts);
+    if bad != 0 {
+        return refused(Answer::BadField(bad));
+    }
+    let spots = spots_of(s, kind, counts, starts);
+    let at = spots.starts;
+    let long = spots.lengths;
+    let paid_in = currency(s, kind, counts, starts);
+    let message = message_of(s, kind, &at, &long, paid_in);
+    Received {
+        answer: Answer::Good(message),
+        starts: at,
+        lengths: long,
+    }
+}
+
+// Receives a sheet: reads it, goes through its elements once, and judges the fields of its kind.
+pub fn receive(s: &[u8]) -> Received
+    ensures { λ r. ⌜ r ≡ receivedOf (now (s .entry)) ⌝ }
+{
+    let seen = survey(s);
+    if !seen.accepted {
+        return refused(Answer::IllFormed(seen.place));
+    }
+    let counts = seen.counts;
+    let starts = seen.starts;
+    let body = kind_of(seen.bodies, &counts);
+    match body {
+        Body::Unknown => refused(Answer::BadField(0)),
+        Body::Of(kind) => receive_as(s, kind, &counts, &starts),
+    }
+}
+
+// A field of a message as the part of its sheet: of the sheet that was received so, the field's text.
+pub fn field<'a>(s: &'a [u8], received: Received, number: usize) -> &'a [u8]
+    ensures { λ r. ⌜ now r ≡ fieldShown (now (s .entry)) received number ⌝ }
+    ensures { λ r. ⌜ (received ≡ receivedOf (now (s .entry)) → now r ≡ fieldOf (now (s .entry)) number) ⌝ }
+{
+    if 14 < number {
+        return &s[..0];
+    }
+    let starts = received.starts;
+    let lengths = received.lengths;
+    shown(s, &starts, &lengths, number)
+}

@@ -1,0 +1,129 @@
+-- The paths of all fields of document 01, "Fields", as one tree of names, and the node of a path.
+-- Which nodes are the fields of which kind is said in the crate of messages, by their paths, and checked against this tree there: a reader who
+-- believes that table need not read this one. That no two paths have one node is a theorem (`proofs/Nodes.antt`).
+use mathlib.Core.Bool.{Bool, true, false, cond}
+use mathlib.Core.List.{List, [], _∷_}
+use Prim.Native.Nat.{ℕ, zero, suc, _-_}
+use lib.Dec.{eqb}
+use lib.ListN.{getD}
+use Rattle.shape.specs.Text.{bytes}
+use Rattle.outline.specs.Paths.{sameName}
+
+-- no path of the tree; what stands above the outer element
+abbrev pub nowhere : ℕ
+nowhere = 0
+
+abbrev pub above : ℕ
+above = 1
+
+-- how many nodes there are, these two among them
+abbrev pub nodes : ℕ
+nodes = 73
+
+-- the name of each node with blanks behind it. Below a node the next ones stand side by side
+unfoldable pub names : List (List ℕ)
+names =
+    bytes "                  "
+    ∷ bytes "                  "
+    ∷ bytes "Document          "
+    ∷ bytes "FIToFICstmrCdtTrf "
+    ∷ bytes "LqdyCdtTrf        "
+    ∷ bytes "FIToFIPmtStsReq   "
+    ∷ bytes "GrpHdr            "
+    ∷ bytes "CdtTrfTxInf       "
+    ∷ bytes "MsgHdr            "
+    ∷ bytes "LqdyCdtTrf        "
+    ∷ bytes "GrpHdr            "
+    ∷ bytes "TxInf             "
+    ∷ bytes "MsgId             "
+    ∷ bytes "CreDtTm           "
+    ∷ bytes "InstgAgt          "
+    ∷ bytes "InstdAgt          "
+    ∷ bytes "PmtId             "
+    ∷ bytes "IntrBkSttlmAmt    "
+    ∷ bytes "PrvsInstgAgt1     "
+    ∷ bytes "DbtrAgt           "
+    ∷ bytes "DbtrAcct          "
+    ∷ bytes "CdtrAgt           "
+    ∷ bytes "CdtrAcct          "
+    ∷ bytes "MsgId             "
+    ∷ bytes "CreDtTm           "
+    ∷ bytes "LqdyTrfId         "
+    ∷ bytes "MsgId             "
+    ∷ bytes "CreDtTm           "
+    ∷ bytes "InstgAgt          "
+    ∷ bytes "OrgnlGrpInf       "
+    ∷ bytes "OrgnlUETR         "
+    ∷ bytes "OrgnlEndToEndId   "
+    ∷ bytes "FinInstnId        "
+    ∷ bytes "FinInstnId        "
+    ∷ bytes "EndToEndId        "
+    ∷ bytes "UETR              "
+    ∷ bytes "FinInstnId        "
+    ∷ bytes "FinInstnId        "
+    ∷ bytes "Id                "
+    ∷ bytes "FinInstnId        "
+    ∷ bytes "Id                "
+    ∷ bytes "UETR              "
+    ∷ bytes "TrfdAmt           "
+    ∷ bytes "DbtrAcct          "
+    ∷ bytes "CdtrAcct          "
+    ∷ bytes "FinInstnId        "
+    ∷ bytes "OrgnlMsgId        "
+    ∷ bytes "OrgnlMsgNmId      "
+    ∷ bytes "OrgnlCreDtTm      "
+    ∷ bytes "ClrSysMmbId       "
+    ∷ bytes "ClrSysMmbId       "
+    ∷ bytes "ClrSysMmbId       "
+    ∷ bytes "ClrSysMmbId       "
+    ∷ bytes "IBAN              "
+    ∷ bytes "ClrSysMmbId       "
+    ∷ bytes "IBAN              "
+    ∷ bytes "Id                "
+    ∷ bytes "Id                "
+    ∷ bytes "ClrSysMmbId       "
+    ∷ bytes "MmbId             "
+    ∷ bytes "MmbId             "
+    ∷ bytes "MmbId             "
+    ∷ bytes "ClrSysId          "
+    ∷ bytes "MmbId             "
+    ∷ bytes "ClrSysId          "
+    ∷ bytes "MmbId             "
+    ∷ bytes "Othr              "
+    ∷ bytes "Othr              "
+    ∷ bytes "MmbId             "
+    ∷ bytes "Prtry             "
+    ∷ bytes "Prtry             "
+    ∷ bytes "Id                "
+    ∷ bytes "Id                "
+    ∷ []
+
+-- the first node below each node; those below node v end where those below node v + 1 begin
+unfoldable pub firsts : List ℕ
+firsts =
+    2 ∷ 2 ∷ 3 ∷ 6 ∷ 8 ∷ 10 ∷ 12 ∷ 16 ∷ 23 ∷ 25 ∷ 26 ∷ 29 ∷ 32 ∷ 32 ∷ 32 ∷ 33 ∷ 34 ∷ 36 ∷ 36 ∷ 37 ∷ 38 ∷ 39 ∷ 40 ∷ 41 ∷
+    41 ∷ 41 ∷ 45 ∷ 45 ∷ 45 ∷ 46 ∷ 49 ∷ 49 ∷ 49 ∷ 50 ∷ 51 ∷ 51 ∷ 51 ∷ 52 ∷ 53 ∷ 54 ∷ 55 ∷ 56 ∷ 56 ∷ 56 ∷ 57 ∷ 58 ∷ 59 ∷
+    59 ∷ 59 ∷ 59 ∷ 60 ∷ 61 ∷ 62 ∷ 64 ∷ 64 ∷ 66 ∷ 66 ∷ 67 ∷ 68 ∷ 69 ∷ 69 ∷ 69 ∷ 69 ∷ 70 ∷ 70 ∷ 71 ∷ 71 ∷ 72 ∷ 73 ∷ 73 ∷
+    73 ∷ 73 ∷ 73 ∷ 73 ∷ []
+
+-- the bytes before the first blank
+abbrev pub beforeBlank : List ℕ → List ℕ
+beforeBlank [] = []
+beforeBlank (b ∷ s) = cond (eqb b 32) [] (b ∷ beforeBlank s)
+
+unfoldable pub nameOf : ℕ → List ℕ
+nameOf v = beforeBlank (getD names v [])
+
+-- the first of n nodes from v on that has this name
+abbrev pub namedFrom : ℕ → ℕ → List ℕ → ℕ
+namedFrom v zero name = nowhere
+namedFrom v (suc n) name = cond (sameName (nameOf v) name) v (namedFrom (suc v) n name)
+
+-- the node of a name below a node
+unfoldable pub childOf : ℕ → List ℕ → ℕ
+childOf v name = namedFrom (getD firsts v 0) (getD firsts (suc v) 0 - getD firsts v 0) name
+
+-- the node of a path, whose names stand innermost first
+unfoldable pub nodeOf : List (List ℕ) → ℕ
+nodeOf [] = above
+nodeOf (name ∷ around) = childOf (nodeOf around) name

@@ -1,0 +1,220 @@
+// The paths of all fields as one tree of names. A node is an element's name below another node, so a path is a walk from the top.
+// The nodes stand breadth first: those below a node stand side by side, from the node's first one up to the next node's first one.
+// Node 0 is nowhere: no path of the tree. Node 1 stands above the outer element.
+ghost use mathlib.Core.Path.{_≡_};
+ghost use mathlib.Core.List.{[]};
+ghost use Prim.Native.Nat.{_<_, _≤_};
+ghost use lib.ListN.{getD};
+ghost use Rattle.outline.specs.Paths.{sameName};
+ghost use Rattle.paths.specs.Tree.{names, firsts, nameOf, childOf};
+
+pub const NOWHERE: usize = 0;
+
+pub const ABOVE: usize = 1;
+
+// The name of each node, with blanks behind it.
+const NAMES: [[u8; 18]; 73] = [
+    *b"                  ",
+    *b"                  ",
+    *b"Document          ",
+    *b"FIToFICstmrCdtTrf ",
+    *b"LqdyCdtTrf        ",
+    *b"FIToFIPmtStsReq   ",
+    *b"GrpHdr            ",
+    *b"CdtTrfTxInf       ",
+    *b"MsgHdr            ",
+    *b"LqdyCdtTrf        ",
+    *b"GrpHdr            ",
+    *b"TxInf             ",
+    *b"MsgId             ",
+    *b"CreDtTm           ",
+    *b"InstgAgt          ",
+    *b"InstdAgt          ",
+    *b"PmtId             ",
+    *b"IntrBkSttlmAmt    ",
+    *b"PrvsInstgAgt1     ",
+    *b"DbtrAgt           ",
+    *b"DbtrAcct          ",
+    *b"CdtrAgt           ",
+    *b"CdtrAcct          ",
+    *b"MsgId             ",
+    *b"CreDtTm           ",
+    *b"LqdyTrfId         ",
+    *b"MsgId             ",
+    *b"CreDtTm           ",
+    *b"InstgAgt          ",
+    *b"OrgnlGrpInf       ",
+    *b"OrgnlUETR         ",
+    *b"OrgnlEndToEndId   ",
+    *b"FinInstnId        ",
+    *b"FinInstnId        ",
+    *b"EndToEndId        ",
+    *b"UETR              ",
+    *b"FinInstnId        ",
+    *b"FinInstnId        ",
+    *b"Id                ",
+    *b"FinInstnId        ",
+    *b"Id                ",
+    *b"UETR              ",
+    *b"TrfdAmt           ",
+    *b"DbtrAcct          ",
+    *b"CdtrAcct          ",
+    *b"FinInstnId        ",
+    *b"OrgnlMsgId        ",
+    *b"OrgnlMsgNmId      ",
+    *b"OrgnlCreDtTm      ",
+    *b"ClrSysMmbId       ",
+    *b"ClrSysMmbId       ",
+    *b"ClrSysMmbId       ",
+    *b"ClrSysMmbId       ",
+    *b"IBAN              ",
+    *b"ClrSysMmbId       ",
+    *b"IBAN              ",
+    *b"Id                ",
+    *b"Id                ",
+    *b"ClrSysMmbId       ",
+    *b"MmbId             ",
+    *b"MmbId             ",
+    *b"MmbId             ",
+    *b"ClrSysId          ",
+    *b"MmbId             ",
+    *b"ClrSysId          ",
+    *b"MmbId             ",
+    *b"Othr              ",
+    *b"Othr              ",
+    *b"MmbId             ",
+    *b"Prtry             ",
+    *b"Prtry             ",
+    *b"Id                ",
+    *b"Id                ",
+];
+
+// The first node below each node; one entry more, where the last one's end.
+const FIRSTS: [usize; 74] = [
+    2,
+    2,
+    3,
+    6,
+    8,
+    10,
+    12,
+    16,
+    23,
+    25,
+    26,
+    29,
+    32,
+    32,
+    32,
+    33,
+    34,
+    36,
+    36,
+    37,
+    38,
+    39,
+    40,
+    41,
+    41,
+    41,
+    45,
+    45,
+    45,
+    46,
+    49,
+    49,
+    49,
+    50,
+    51,
+    51,
+    51,
+    52,
+    53,
+    54,
+    55,
+    56,
+    56,
+    56,
+    57,
+    58,
+    59,
+    59,
+    59,
+    59,
+    60,
+    61,
+    62,
+    64,
+    64,
+    66,
+    66,
+    67,
+    68,
+    69,
+    69,
+    69,
+    69,
+    70,
+    70,
+    71,
+    71,
+    72,
+    73,
+    73,
+    73,
+    73,
+    73,
+    73,
+];
+
+fn line(node: usize) -> [u8; 18]
+    requires { ⌜ node < 73 ⌝ }
+    ensures { λ r. ⌜ r ≡ getD names node [] ⌝ }
+{
+    NAMES[node]
+}
+
+fn first(node: usize) -> usize
+    requires { ⌜ node < 74 ⌝ }
+    ensures { λ r. ⌜ r ≡ getD firsts node 0 ⌝ }
+    ensures { λ r. ⌜ r ≤ 73 ⌝ }
+{
+    FIRSTS[node]
+}
+
+// Whether a name is the node's. A blank ends the node's name and is in no other.
+fn is_named(node: usize, name: &[u8]) -> bool
+    requires { ⌜ node < 73 ⌝ }
+    ensures { λ r. ⌜ r ≡ sameName (nameOf node) (now (name .entry)) ⌝ }
+{
+    if 17 < name.len() {
+        return false;
+    }
+    let l = line(node);
+    let mut i = 0;
+    while i < name.len() {
+        let b = name[i];
+        if (l[i] != b) | (b == b' ') {
+            return false;
+        }
+        i += 1;
+    }
+    l[i] == b' '
+}
+
+// The node of a name below a node, or nowhere.
+pub fn child(node: usize, name: &[u8]) -> usize
+    requires { ⌜ node < 73 ⌝ }
+    ensures { λ r. ⌜ r ≡ childOf node (now (name .entry)) ⌝ }
+    ensures { λ r. ⌜ r < 73 ⌝ }
+{
+    let end = first(node + 1);
+    let mut below = first(node);
+    while below < end {
+        if is_named(below, name) {
+            return below;
+        }
+        below += 1;
+    }
+    NOWHERE
+}
