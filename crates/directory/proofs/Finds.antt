@@ -1,0 +1,111 @@
+-- What a directory's record says: the record that is found of a code is that code's, a fit directory has the owner of each code that a
+-- record names, and an ascending one has each code in one place.
+-- Assumes nothing.
+use mathlib.Core.Path.{_≡_, refl}
+use mathlib.Core.Bool.{Bool, true, false, _&&_, cond, false≢true}
+use mathlib.Core.List.{List, [], _∷_}
+use Prim.Native.Nat.{ℕ, zero, suc, _+_, _<_}
+use native.Mathlib.Omega.{arith}
+use lib.Dec.{leb, ltb, eqb}
+use lib.ListN.{length, getD}
+use borrow.Author.Tests.{ltb-true, eqb-true}
+use Rattle.shape.specs.Bytes.{every}
+use Rattle.shape.specs.declared.value.Value.{Value}
+use Rattle.shape.specs.declared.value.Value.the-variants.{Of, None}
+use Rattle.shape.proofs.Tests.{and-left, and-right}
+use Rattle.directory.specs.declared.Kind.{Kind}
+use Rattle.directory.specs.declared.Kind.the-variants.{Owner, Direct, Indirect, Provider}
+use Rattle.directory.specs.declared.Participant.{Participant}
+use Rattle.directory.specs.declared.Found.{Found}
+use Rattle.directory.specs.declared.Found.the-variants.{At, Missing}
+use Rattle.directory.specs.Directory.{codeMost, recordsMost, foundFrom, found, isOwner, ownerFound, names, ascending, isFit}
+use Rattle.directory.specs.Gathering.{nobody}
+
+-- found at the head of a list that starts at place j, or further on
+by-head : (j code k : ℕ) (q p : Participant) (rest : Found) (n : ℕ) (same : Bool) → eqb (q .code) code ≡ same
+    → (rest ≡ At k p → (p .code ≡ code) × (k < suc j + n))
+    → cond same (At j q) rest ≡ At k p → (p .code ≡ code) × (k < j + suc n)
+by-head j code k q p rest n true e further f =
+    let record-is : q ≡ p = cc in
+    let place-is : j ≡ k = cc in
+    (rw (← record-is) (eqb-true (q .code) code e), omega arith)
+by-head j code k q p rest n false e further f = (further f .0, omega (arith, further f .1))
+
+code-from : (j : ℕ) (dir : List Participant) (code k : ℕ) (p : Participant) → foundFrom j dir code ≡ At k p
+    → (p .code ≡ code) × (k < j + length dir)
+unfolding foundFrom
+code-from j [] code k p f = let z : _≡_ {A = ℕ} 0 1 = cc in absurd (omega arith)
+code-from j (q ∷ dir) code k p f =
+    by-head j code k q p (foundFrom (suc j) dir code) (length dir) (eqb (q .code) code) refl (code-from (suc j) dir code k p) f
+
+pub found-code : (dir : List Participant) (code k : ℕ) (p : Participant) → found dir code ≡ At k p → (p .code ≡ code) × (k < length dir)
+unfolding found
+found-code dir code k p f = let r : (p .code ≡ code) × (k < 0 + length dir) = code-from 0 dir code k p f in (r .0, omega arith)
+
+-- the code that a kind names
+abbrev pub namedBy : Kind → Value
+namedBy Owner = None
+namedBy (Direct head) = Of head
+namedBy (Indirect head) = Of head
+namedBy (Provider bank) = Of bank
+
+-- the code is an owner's, who stands at a place of the directory
+pub record OwnerAt (dir : List Participant) (code : ℕ) : Type 0 where
+  pub place : ℕ
+  pub owner : Participant
+  pub there : found dir code ≡ At place owner
+  pub owns : isOwner (owner .kind) ≡ true
+
+owner-there : (dir : List Participant) (code : ℕ) (f : Found) → found dir code ≡ f → ownerFound f ≡ true → OwnerAt dir code
+owner-there dir code (At j q) e t = record { place = j; owner = q; there = e; owns = t }
+owner-there dir code Missing e t = absurd (false≢true t)
+
+named-found : (dir : List Participant) (kind : Kind) (head : ℕ) → namedBy kind ≡ Of head → names dir kind ≡ true
+    → ownerFound (found dir head) ≡ true
+named-found dir Owner head e t = let z : _≡_ {A = ℕ} 0 1 = cc in absurd (omega arith)
+named-found dir (Direct code) head e t = let same : code ≡ head = cc in rw (← same) t
+named-found dir (Indirect code) head e t = let same : code ≡ head = cc in rw (← same) t
+named-found dir (Provider code) head e t = let same : code ≡ head = cc in rw (← same) t
+
+-- a test that holds at each record holds at the one at i
+each : (t : Participant → Bool) (dir : List Participant) → every t dir ≡ true → (i : ℕ) → i < length dir → t (getD dir i nobody) ≡ true
+each t [] e i h = absurd (omega arith)
+each t (p ∷ dir) e zero h = and-left (t p) (every t dir) e
+each t (p ∷ dir) e (suc i) h = each t dir (and-right (t p) (every t dir) e) i (omega arith)
+
+fit-names : (dir : List Participant) → isFit dir ≡ true → every (λ (p : Participant). names dir (p .kind)) dir ≡ true
+unfolding isFit
+fit-names dir fit =
+    and-right
+    (leb 1 (length dir) && leb (length dir) recordsMost && every (λ (p : Participant). leb (p .code) codeMost) dir && ascending dir)
+    (every (λ (p : Participant). names dir (p .kind)) dir) fit
+
+-- in a fit directory the code that a record names is an owner's
+pub owner-named : (dir : List Participant) → isFit dir ≡ true → (i : ℕ) → i < length dir
+    → (head : ℕ) → namedBy (getD dir i nobody .kind) ≡ Of head → OwnerAt dir head
+owner-named dir fit i h head e =
+    owner-there dir head (found dir head) refl
+    (named-found dir (getD dir i nobody .kind) head e
+    (each (λ (p : Participant). names dir (p .kind)) dir (fit-names dir fit) i h))
+
+ascending-rest : (p : Participant) (dir : List Participant) → ascending (p ∷ dir) ≡ true → ascending dir ≡ true
+ascending-rest p [] a = refl
+ascending-rest p (q ∷ dir) a = and-right (ltb (p .code) (q .code)) (ascending (q ∷ dir)) a
+
+head-below : (p : Participant) (dir : List Participant) → ascending (p ∷ dir) ≡ true
+    → (j : ℕ) → j < length dir → p .code < getD dir j nobody .code
+head-below p [] a j h = absurd (omega arith)
+head-below p (q ∷ dir) a zero h = ltb-true (p .code) (q .code) (and-left (ltb (p .code) (q .code)) (ascending (q ∷ dir)) a)
+head-below p (q ∷ dir) a (suc j) h =
+    omega (
+      arith,
+      ltb-true (p .code) (q .code) (and-left (ltb (p .code) (q .code)) (ascending (q ∷ dir)) a),
+      head-below q dir (ascending-rest p (q ∷ dir) a) j (omega arith),
+    )
+
+pub one-place : (dir : List Participant) → ascending dir ≡ true → (i j : ℕ) → i < j → j < length dir
+    → getD dir i nobody .code < getD dir j nobody .code
+one-place [] a i j h k = absurd (omega arith)
+one-place (p ∷ dir) a i zero h k = absurd (omega arith)
+one-place (p ∷ dir) a zero (suc j) h k = head-below p dir a j (omega arith)
+one-place (p ∷ dir) a (suc i) (suc j) h k = one-place dir (ascending-rest p dir a) i j (omega arith) (omega arith)

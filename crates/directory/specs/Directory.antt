@@ -1,0 +1,75 @@
+-- The directory of document 01, "Room, seats, directory", as a list of participants: when it is fit, the record of a code, who is listed, and
+-- whose accounts a participant uses.
+use mathlib.Core.Bool.{Bool, true, false, _&&_, _||_, cond}
+use mathlib.Core.List.{List, [], _∷_}
+use Prim.Native.Nat.{ℕ, suc}
+use lib.Dec.{leb, ltb, eqb}
+use lib.ListN.{length}
+use Rattle.shape.specs.Bytes.{every}
+use Rattle.shape.specs.declared.value.Value.{Value}
+use Rattle.shape.specs.declared.value.Value.the-variants.{Of, None}
+use Rattle.directory.specs.declared.Kind.{Kind}
+use Rattle.directory.specs.declared.Kind.the-variants.{Owner, Direct, Indirect, Provider}
+use Rattle.directory.specs.declared.Participant.{Participant}
+use Rattle.directory.specs.declared.Found.{Found}
+use Rattle.directory.specs.declared.Found.the-variants.{At, Missing}
+
+-- 1 to 16 records, codes 0 to 999999
+abbrev pub recordsMost : ℕ
+recordsMost = 16
+
+abbrev pub codeMost : ℕ
+codeMost = 999999
+
+-- the record of a code: the first one, with its place counted from k on
+unfoldable pub foundFrom : ℕ → List Participant → ℕ → Found
+foundFrom k [] code = Missing
+foundFrom k (p ∷ dir) code = cond (eqb (p .code) code) (At k p) (foundFrom (suc k) dir code)
+
+unfoldable pub found : List Participant → ℕ → Found
+found dir code = foundFrom 0 dir code
+
+abbrev pub isOwner : Kind → Bool
+isOwner Owner = true
+isOwner (Direct head) = false
+isOwner (Indirect head) = false
+isOwner (Provider bank) = false
+
+-- the code is an owner's of the list
+abbrev pub ownerFound : Found → Bool
+ownerFound (At place p) = isOwner (p .kind)
+ownerFound Missing = false
+
+-- all but owners name an owner in the list
+abbrev pub names : List Participant → Kind → Bool
+names dir Owner = true
+names dir (Direct head) = ownerFound (found dir head)
+names dir (Indirect head) = ownerFound (found dir head)
+names dir (Provider bank) = ownerFound (found dir bank)
+
+-- in ascending order of code, none twice
+abbrev pub ascending : List Participant → Bool
+ascending [] = true
+ascending (p ∷ []) = true
+ascending (p ∷ q ∷ dir) = ltb (p .code) (q .code) && ascending (q ∷ dir)
+
+unfoldable pub isFit : List Participant → Bool
+isFit dir =
+    leb 1 (length dir) && leb (length dir) recordsMost
+    && every (λ (p : Participant). leb (p .code) codeMost) dir
+    && ascending dir
+    && every (λ (p : Participant). names dir (p .kind)) dir
+
+-- `SEP` lists owners and branches, `ASP` providers
+abbrev pub inSep : Kind → Bool
+inSep Owner = true
+inSep (Direct head) = true
+inSep (Indirect head) = true
+inSep (Provider bank) = false
+
+-- whose accounts a code uses: its own if it is an owner, its head's if it is a direct branch, else none
+abbrev pub accountCode : ℕ → Kind → Value
+accountCode code Owner = Of code
+accountCode code (Direct head) = Of head
+accountCode code (Indirect head) = None
+accountCode code (Provider bank) = None

@@ -1,0 +1,239 @@
+// The directory: who takes part, what it means to be listed, and whose accounts a participant uses. Document 01, "Room, seats, directory".
+// All definitions are over the list of participants (`specs/Directory.antt`). The code goes through the lent list in two places only, which
+// find a code's record and gather the records for the test of fitness; everything else works on what was found.
+
+use shape::value::Value;
+ghost use mathlib.Core.Path.{_≡_};
+ghost use Prim.Native.Nat.{_<_, _^_};
+ghost use lib.Dec.{leb};
+ghost use Rattle.shape.specs.Bytes.{every};
+ghost use Rattle.directory.specs.declared.Participant.{Participant};
+ghost use Rattle.directory.specs.Directory.{codeMost, found, isOwner, ownerFound, names, ascending, inSep, accountCode};
+ghost use Rattle.directory.specs.Gathering.{nobody, noneGathered, added, gathered, looked, recordsIn, fitGathered};
+
+// The highest code.
+pub const CODE_MOST: u64 = 999999;
+
+// What a participant is: an owner of accounts, or a branch or provider, with the code of its head or serving bank.
+pub enum Kind {
+    Owner,
+    Direct(u64),
+    Indirect(u64),
+    Provider(u64),
+}
+
+// A record of the directory.
+pub struct Participant {
+    pub code: u64,
+    pub instant: bool,
+    pub kind: Kind,
+}
+
+// The record of a code and its place in the list, or that there is none.
+pub enum Found {
+    At(usize, Participant),
+    Missing,
+}
+
+// The first records of a directory, at most 16, and how many it has in all.
+pub struct Gathered {
+    pub count: usize,
+    pub records: [Participant; 16],
+}
+
+fn nobody() -> Participant
+    ensures { λ r. ⌜ r ≡ nobody ⌝ }
+{
+    Participant {
+        code: 0,
+        instant: false,
+        kind: Kind::Owner,
+    }
+}
+
+fn none_gathered() -> Gathered
+    ensures { λ r. ⌜ r ≡ noneGathered ⌝ }
+{
+    Gathered {
+        count: 0,
+        records: [nobody(); 16],
+    }
+}
+
+// One record more: in the next place while there is one, and counted in any case.
+fn add(g: Gathered, p: Participant) -> Gathered
+    requires { ⌜ g .count < 2 ^ 63 ⌝ }
+    ensures { λ r. ⌜ r ≡ added g p ⌝ }
+{
+    let at = g.count;
+    let mut next = g;
+    if at < 16 {
+        next.records[at] = p;
+    }
+    next.count = at + 1;
+    next
+}
+
+// The first records of a directory, and how many it has.
+pub fn gather(dir: &[Participant]) -> Gathered
+    ensures { λ r. ⌜ r ≡ gathered (now (dir .entry)) ⌝ }
+{
+    let mut out = none_gathered();
+    let mut i = 0;
+    while i < dir.len() {
+        out = add(out, dir[i]);
+        i += 1;
+    }
+    out
+}
+
+// What is found of a code with one record more: what was found before, else this record if it is the code's.
+fn look(before: Found, place: usize, p: Participant, code: u64) -> Found
+    ensures { λ r. ⌜ r ≡ looked before place p code ⌝ }
+{
+    match before {
+        Found::At(_place, _p) => before,
+        Found::Missing => {
+            if p.code == code {
+                Found::At(place, p)
+            } else {
+                Found::Missing
+            }
+        }
+    }
+}
+
+// The record of a code.
+pub fn find(dir: &[Participant], code: u64) -> Found
+    ensures { λ r. ⌜ r ≡ found (now (dir .entry)) code ⌝ }
+{
+    let mut out = Found::Missing;
+    let mut i = 0;
+    while i < dir.len() {
+        out = look(out, i, dir[i], code);
+        i += 1;
+    }
+    out
+}
+
+fn is_owner(kind: Kind) -> bool
+    ensures { λ r. ⌜ r ≡ isOwner kind ⌝ }
+{
+    match kind {
+        Kind::Owner => true,
+        Kind::Direct(_head) => false,
+        Kind::Indirect(_head) => false,
+        Kind::Provider(_bank) => false,
+    }
+}
+
+// Whether a code is that of an owner among the gathered records.
+fn has_owner(g: Gathered, code: u64) -> bool
+    ensures { λ r. ⌜ r ≡ ownerFound (found (recordsIn g) code) ⌝ }
+{
+    let records = g.records;
+    let mut i = 0;
+    while (i < g.count) & (i < 16) {
+        let p = records[i];
+        if p.code == code {
+            let kind = p.kind;
+            return is_owner(kind);
+        }
+        i += 1;
+    }
+    false
+}
+
+// Whether a participant is an owner or names one among the gathered records.
+fn names_owner(g: Gathered, kind: Kind) -> bool
+    ensures { λ r. ⌜ r ≡ names (recordsIn g) kind ⌝ }
+{
+    match kind {
+        Kind::Owner => true,
+        Kind::Direct(head) => has_owner(g, head),
+        Kind::Indirect(head) => has_owner(g, head),
+        Kind::Provider(bank) => has_owner(g, bank),
+    }
+}
+
+// Whether all gathered records name an owner.
+fn all_name_owners(g: Gathered) -> bool
+    ensures { λ r. ⌜ r ≡ every (λ (p : Participant). names (recordsIn g) (p .kind)) (recordsIn g) ⌝ }
+{
+    let records = g.records;
+    let mut i = 0;
+    while (i < g.count) & (i < 16) {
+        let p = records[i];
+        let kind = p.kind;
+        if !names_owner(g, kind) {
+            return false;
+        }
+        i += 1;
+    }
+    true
+}
+
+// Whether all gathered codes are codes.
+fn all_codes(g: Gathered) -> bool
+    ensures { λ r. ⌜ r ≡ every (λ (p : Participant). leb (p .code) codeMost) (recordsIn g) ⌝ }
+{
+    let records = g.records;
+    let mut i = 0;
+    while (i < g.count) & (i < 16) {
+        let p = records[i];
+        if CODE_MOST < p.code {
+            return false;
+        }
+        i += 1;
+    }
+    true
+}
+
+// Whether the gathered codes ascend.
+fn ascends(g: Gathered) -> bool
+    ensures { λ r. ⌜ r ≡ ascending (recordsIn g) ⌝ }
+{
+    let records = g.records;
+    let mut i = 1;
+    while (i < g.count) & (i < 16) {
+        let p = records[i - 1];
+        let q = records[i];
+        if q.code <= p.code {
+            return false;
+        }
+        i += 1;
+    }
+    true
+}
+
+// Whether the directory that was gathered is fit.
+pub fn fits(g: Gathered) -> bool
+    ensures { λ r. ⌜ r ≡ fitGathered g ⌝ }
+{
+    (1 <= g.count) & (g.count <= 16) & all_codes(g) & ascends(g) & all_name_owners(g)
+}
+
+// Whether `SEP` lists what is of this kind; `ASP` lists the others.
+pub fn in_sep(kind: Kind) -> bool
+    ensures { λ r. ⌜ r ≡ inSep kind ⌝ }
+{
+    match kind {
+        Kind::Owner => true,
+        Kind::Direct(_head) => true,
+        Kind::Indirect(_head) => true,
+        Kind::Provider(_bank) => false,
+    }
+}
+
+// The code whose accounts a participant uses: its own, its head's, or none's.
+pub fn account_code(p: Participant) -> Value
+    ensures { λ r. ⌜ r ≡ accountCode (p .code) (p .kind) ⌝ }
+{
+    let kind = p.kind;
+    match kind {
+        Kind::Owner => Value::Of(p.code),
+        Kind::Direct(head) => Value::Of(head),
+        Kind::Indirect(_head) => Value::None,
+        Kind::Provider(_bank) => Value::None,
+    }
+}
