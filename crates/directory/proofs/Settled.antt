@@ -11,6 +11,8 @@ use Rattle.directory.specs.Gathering.{gathered}
 use Rattle.shape.proofs.Single.{Settled, by-equation}
 use Rattle.directory.proofs.fits.Kinds as fits-kinds
 use Rattle.directory.proofs.fits.Reads as fits-reads
+use Rattle.directory.proofs.is_owner.Kinds as is-owner-kinds
+use Rattle.directory.proofs.is_owner.Reads as is-owner-reads
 use Rattle.directory.proofs.in_sep.Kinds as in-sep-kinds
 use Rattle.directory.proofs.in_sep.Reads as in-sep-reads
 use Rattle.directory.proofs.account_code.Kinds as account-code-kinds
@@ -18,6 +20,9 @@ use Rattle.directory.proofs.account_code.Reads as account-code-reads
 
 pub fits : Settled _ fits-kinds.ps fits-kinds.r fits-reads.Post
 fits κs a x y e f = by-equation
+
+pub is-owner : Settled _ is-owner-kinds.ps is-owner-kinds.r is-owner-reads.Post
+is-owner κs a x y e f = by-equation
 
 pub in-sep : Settled _ in-sep-kinds.ps in-sep-kinds.r in-sep-reads.Post
 in-sep κs a x y e f = by-equation

@@ -116,7 +116,7 @@ pub fn find(dir: &[Participant], code: u64) -> Found
     out
 }
 
-fn is_owner(kind: Kind) -> bool
+pub fn is_owner(kind: Kind) -> bool
     ensures { λ r. ⌜ r ≡ isOwner kind ⌝ }
 {
     match kind {

@@ -61,6 +61,22 @@ hex-small b e = go (isDigit b) refl
     go true d = let r = digit-range b d in omega arith
     go false d = let r = in-range 97 102 b (or-cases (isDigit b) (leb 97 b && leb b 102) e (λ k. absurd (false≢true (sym d ∙ k))) (λ k. k)) in omega arith
 
+-- the digit of the variant is worth 8 to 11
+pub variant-value : (b : ℕ) → isVariant b ≡ true → (8 ≤ hexValue b) × (hexValue b ≤ 11)
+unfolding isVariant isDigit hexValue
+variant-value b e =
+    or-cases (leb 56 b && leb b 57) (leb 97 b && leb b 98) e
+    (λ h. let r = in-range 56 57 b h in low (isDigit b) refl (r .0) (r .1))
+    (λ h. let r = in-range 97 98 b h in high (isDigit b) refl (r .0) (r .1))
+  where
+    low : (t : Bool) → isDigit b ≡ t → 56 ≤ b → b ≤ 57 → (8 ≤ cond t (b - 48) (b - 87)) × (cond t (b - 48) (b - 87) ≤ 11)
+    low true d h k = (omega arith, omega arith)
+    low false d h k = absurd (false≢true (sym d ∙ range-in 48 57 b (omega arith) (omega arith)))
+
+    high : (t : Bool) → isDigit b ≡ t → 97 ≤ b → b ≤ 98 → (8 ≤ cond t (b - 48) (b - 87)) × (cond t (b - 48) (b - 87) ≤ 11)
+    high true d h k = let r = digit-range b d in absurd (omega arith)
+    high false d h k = (omega arith, omega arith)
+
 -- the text's four bytes from i on are digits where the pattern's are
 pub four-hex : (s : List ℕ) (i : ℕ) → isUetr s ≡ true
     → isDigitClass (getD uetrPattern (i + 0) 0) ≡ true → isDigitClass (getD uetrPattern (i + 1) 0) ≡ true

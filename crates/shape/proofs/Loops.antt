@@ -1,18 +1,20 @@
 -- What one turn of a loop over a text does: the definitions at `drop i s`, one byte further on.
 -- Assumes nothing.
 use mathlib.Core.Path.{_≡_, refl, ap, _∙_}
-use mathlib.Core.Bool.{Bool, true, false, _&&_, false≢true}
+use mathlib.Core.Bool.{Bool, true, false, _&&_, cond, false≢true}
 use mathlib.Core.List.{List, [], _∷_}
 use Prim.Native.Nat.{ℕ, suc, _+_, _*_, _^_, _≤_, _<_}
 use native.Mathlib.Omega.{arith}
 use native.Mathlib.Numerals.{add-one}
 use native.Mathlib.Nat.{pow-succ', pow-le-pow-right}
-use lib.Dec.{lit<}
+use lib.Dec.{eqb, lit<}
 use lib.ListN.{length, getD, drop, drop-of-length-le}
 use lib.Seq.{drop-cons}
+use borrow.Author.Tests.{eq-eqb, ne-eqb}
 use Rattle.shape.specs.Bytes.{every}
 use Rattle.shape.specs.Patterns.{within, fits}
 use Rattle.shape.specs.Numbers.{digitValue, decimalFrom}
+use Rattle.shape.specs.Stored.{beforeZero}
 use Rattle.shape.proofs.Tests.{and-right, and-false}
 
 -- a text of another length fits no pattern
@@ -52,6 +54,19 @@ module _ (f : ℕ → Bool) (s : List ℕ) (i : ℕ) where
 
   pub every-end : length s ≤ i → every f (drop i s) ≡ true
   every-end h = rw (drop-of-length-le s h)
+
+module _ (s : List ℕ) (i : ℕ) where
+  zero-turn : i < length s → beforeZero (drop i s) ≡ cond (eqb (getD s i 0) 0) [] (getD s i 0 ∷ beforeZero (drop (i + 1) s))
+  zero-turn h = rw (add-one, drop-cons s i 0 h)
+
+  pub zero-hit : i < length s → getD s i 0 ≡ 0 → length (beforeZero (drop i s)) ≡ 0
+  zero-hit h e = ap length (zero-turn h) ∙ rw (eq-eqb (getD s i 0) 0 e)
+
+  pub zero-miss : i < length s → (getD s i 0 ≡ 0 → ⊥) → length (beforeZero (drop i s)) ≡ suc (length (beforeZero (drop (i + 1) s)))
+  zero-miss h e = ap length (zero-turn h) ∙ rw (ne-eqb (getD s i 0) 0 e)
+
+  pub zero-end : length s ≤ i → length (beforeZero (drop i s)) ≡ 0
+  zero-end h = rw (drop-of-length-le s h)
 
 module _ (s : List ℕ) (i n : ℕ) where
   pub decimal-turn : i < length s → decimalFrom n (drop i s) ≡ decimalFrom (n * 10 + digitValue (getD s i 0)) (drop (i + 1) s)

@@ -3,7 +3,8 @@
 use mathlib.Core.Path.{_≡_, ap, _∙_}
 use mathlib.Core.Bool.{true}
 use mathlib.Core.List.{List, [], _∷_, map}
-use Prim.Native.Nat.{ℕ, _+_, _^_, _<_}
+use Prim.Native.Nat.{ℕ, _+_, _/_, _%_, _^_, _<_}
+use native.Mathlib.Omega.{arith}
 use lib.ListN.{getD, replicate}
 use Rattle.shape.specs.Bits.{cut}
 use Rattle.shape.specs.Bytes.{isHex}
@@ -35,7 +36,7 @@ FourHex s i =
     (isHex (getD s (i + 0) 0) ≡ true) × (isHex (getD s (i + 1) 0) ≡ true) × (isHex (getD s (i + 2) 0) ≡ true) × (isHex (getD s (i + 3) 0) ≡ true)
 
 -- four digits are worth less than 2 ^ 16
-four-fit : (s : List ℕ) (i : ℕ) → FourHex s i → fourFrom s i < 2 ^ 16
+pub four-fit : (s : List ℕ) (i : ℕ) → FourHex s i → fourFrom s i < 2 ^ 16
 four-fit s i h = four-small s i (h .0) (h .1) (h .2) (h .3)
 
 -- four digits stand in their number
@@ -66,3 +67,17 @@ half-back s i j k l hi hj hk hl =
   where
     digitsAt : ℕ → List ℕ → List ℕ
     digitsAt m values = fourDigits (getD values m 0)
+
+-- the first digit of the last group stands above the last twelve bits
+pub last-group-digit : (s : List ℕ) (i : ℕ) (a b c : ℕ) → FourHex s i
+    → groups a b c (fourFrom s i) / 4096 % 16 ≡ hexValue (getD s (i + 0) 0)
+unfolding groups fourFrom
+last-group-digit s i a b c h =
+    omega (arith, hex-small (getD s (i + 0) 0) (h .0), hex-small (getD s (i + 1) 0) (h .1), hex-small (getD s (i + 2) 0) (h .2), hex-small (getD s (i + 3) 0) (h .3))
+
+-- the first digit of the first group stands at the top
+pub first-group-digit : (s : List ℕ) (i : ℕ) (b c d : ℕ) → FourHex s i → b < 2 ^ 16 → c < 2 ^ 16 → d < 2 ^ 16
+    → groups (fourFrom s i) b c d / 2 ^ 60 ≡ hexValue (getD s (i + 0) 0)
+unfolding groups fourFrom
+first-group-digit s i b c d h hb hc hd =
+    omega (arith, hex-small (getD s (i + 1) 0) (h .1), hex-small (getD s (i + 2) 0) (h .2), hex-small (getD s (i + 3) 0) (h .3))

@@ -1,13 +1,13 @@
 -- A text by its places: the bytes at 0, 1, 2 and so on are the text, and zeros stand past its end.
 -- Assumes nothing.
 use mathlib.Core.Path.{_≡_, refl, ap, _∙_}
-use mathlib.Core.Bool.{true, not, _&&_, false≢true}
+use mathlib.Core.Bool.{Bool, true, false, not, _&&_, cond, false≢true}
 use mathlib.Core.List.{List, [], _∷_}
 use Prim.Native.Nat.{ℕ, zero, suc, _^_, _<_, _≤_}
 use native.Mathlib.Omega.{arith}
 use native.Mathlib.Nat.{suc-inj, le-of-suc-le-suc}
 use lib.Dec.{leb, eqb, lit<}
-use lib.ListN.{length, getD}
+use lib.ListN.{length, getD, take}
 use borrow.Author.Tests.{ne-eqb}
 use Rattle.shape.specs.Bytes.{every, isText}
 use Rattle.shape.specs.Patterns.{within, fits}
@@ -54,6 +54,23 @@ before-zero (b ∷ s) zero e h = absurd (omega arith)
 before-zero (b ∷ s) (suc n) e h =
     let r = text-range b (and-left (isText b) (every isText s) e) in
     rw (ne-eqb b 0 (λ z. omega arith), bytes-behind b s 0 n, before-zero s n (and-right (isText b) (every isText s) e) (le-of-suc-le-suc h))
+
+-- the bytes before the first zero are no more than all of them, and stand in front
+short-step : (t : Bool) (b : ℕ) (u s : List ℕ) → length u ≤ length s → length (cond t [] (b ∷ u)) ≤ length (b ∷ s)
+short-step true b u s h = omega arith
+short-step false b u s h = omega arith
+
+pub before-short : (s : List ℕ) → length (beforeZero s) ≤ length s
+before-short [] = omega arith
+before-short (b ∷ s) = short-step (eqb b 0) b (beforeZero s) s (before-short s)
+
+front-step : (t : Bool) (b : ℕ) (u s : List ℕ) → take (length u) s ≡ u → take (length (cond t [] (b ∷ u))) (b ∷ s) ≡ cond t [] (b ∷ u)
+front-step true b u s e = refl
+front-step false b u s e = ap (λ (t : List ℕ). b ∷ t) e
+
+pub before-front : (s : List ℕ) → take (length (beforeZero s)) s ≡ beforeZero s
+before-front [] = refl
+before-front (b ∷ s) = front-step (eqb b 0) b (beforeZero s) s (before-front s)
 
 -- each byte of a text that fits a pattern is of its class
 pub fits-at : (p s : List ℕ) (i : ℕ) → fits p s ≡ true → i < length p → within (getD p i 0) (getD s i 0) ≡ true

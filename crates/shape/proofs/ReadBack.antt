@@ -4,21 +4,23 @@ use mathlib.Core.Path.{_≡_, refl, sym, ap, subst, _∙_}
 use mathlib.Core.Bool.{true, _&&_, false≢true}
 use mathlib.Core.List.{List, _∷_, _++_}
 use mathlib.Core.Logic.{_↔_}
-use Prim.Native.Nat.{ℕ, _≤_}
+use Prim.Native.Nat.{ℕ, _≤_, _/_, _%_, _^_}
+use native.Mathlib.Omega.{arith}
 use lib.Dec.{leb, eqb, lit<}
-use lib.ListN.{length, getD}
+use lib.ListN.{length, getD, take}
 use borrow.Author.Tests.{leb-true, eqb-true, eq-eqb}
-use Rattle.shape.specs.Bytes.{every, isText, isDigit, isHex}
+use Rattle.shape.specs.Bytes.{every, isText, isDigit, isHex, isVariant}
 use Rattle.shape.specs.Patterns.{within, fits, uetrPattern}
+use Rattle.shape.specs.Numbers.{hexValue}
 use Rattle.shape.specs.Fields.{isIdentifier}
-use Rattle.shape.specs.Stored.{sevenFrom, identifierOf, identifierText, sameIdentifier, beforeZero, sevenBytes, fourFrom, groups, isUetr, uetrOf, uetrText, sameUetr, hexDigit}
+use Rattle.shape.specs.Stored.{sevenFrom, identifierOf, allBytes, identifierText, sameIdentifier, beforeZero, sevenBytes, fourFrom, groups, isUetr, uetrOf, uetrText, sameUetr, hexDigit}
 use Rattle.shape.specs.declared.stored.Identifier.{Identifier}
 use Rattle.shape.specs.declared.stored.Uetr.{Uetr}
 use Rattle.shape.proofs.Tests.{and-left, and-right}
 use Rattle.shape.proofs.Loops.{fits-length}
-use Rattle.shape.proofs.Hex.{four-hex}
-use Rattle.shape.proofs.Places.{bytesFrom, bytes-whole, text-small, before-zero, fits-at}
-use Rattle.shape.proofs.Packing.{seven-back, FourHex, half-back}
+use Rattle.shape.proofs.Hex.{four-hex, variant-value}
+use Rattle.shape.proofs.Places.{bytesFrom, bytes-whole, text-small, before-zero, before-short, before-front, fits-at}
+use Rattle.shape.proofs.Packing.{seven-back, FourHex, four-fit, half-back, last-group-digit, first-group-digit}
 
 -- an identifier is short, and a text
 identifier-parts : (s : List ℕ) → isIdentifier s ≡ true → (length s ≤ 35) × (every isText s ≡ true)
@@ -37,10 +39,19 @@ identifier-bytes s e =
 
 -- an identifier read back is the one that was stored
 pub identifier-back : (s : List ℕ) → isIdentifier s ≡ true → identifierText (identifierOf s) ≡ s
-unfolding identifierOf identifierText
+unfolding identifierOf identifierText allBytes
 identifier-back s e =
     let p = identifier-parts s e in
     rw e (ap beforeZero (identifier-bytes s (p .1)) ∙ before-zero s 35 (p .1) (p .0))
+
+-- a stored text has at most 35 bytes, and stands in front of the others
+pub text-short : (x : Identifier) → length (identifierText x) ≤ 35
+unfolding identifierText allBytes
+text-short x = before-short (allBytes x)
+
+pub text-front : (x : Identifier) → take (length (identifierText x)) (allBytes x) ≡ identifierText x
+unfolding identifierText
+text-front x = before-front (allBytes x)
 
 -- the same numbers are the same identifier
 same-identifier : (x y : Identifier) → sameIdentifier x y ≡ true → x ≡ y
@@ -78,7 +89,7 @@ identifier-same s t es et = (
 
 -- zeros are no identifier
 pub identifier-not-zeros : (s : List ℕ) → isIdentifier s ≡ true → identifierOf s ≡ record { first = 0; second = 0; third = 0; fourth = 0; fifth = 0 } → ⊥
-unfolding identifierText isIdentifier
+unfolding identifierText allBytes isIdentifier
 identifier-not-zeros s e z =
     false≢true (subst (λ (t : List ℕ). isIdentifier t ≡ true) (sym (identifier-back s e) ∙ ap identifierText z) e)
 
@@ -131,6 +142,36 @@ uetr-bytes s e =
 pub uetr-back : (s : List ℕ) → isUetr s ≡ true → uetrText (uetrOf s) ≡ s
 unfolding uetrOf
 uetr-back s e = rw e (uetr-bytes s e ∙ bytes-whole s 36 (uetr-length s e))
+
+-- the digit of the version is 4, that of the variant one of 8, 9, a and b
+version-digit : (s : List ℕ) → isUetr s ≡ true → getD s 14 0 ≡ 52
+unfolding isUetr uetrPattern within
+version-digit s e = eqb-true (getD s 14 0) 52 (fits-at uetrPattern s 14 e (lit< tt))
+
+variant-digit : (s : List ℕ) → isUetr s ≡ true → isVariant (getD s 19 0) ≡ true
+unfolding isUetr uetrPattern within
+variant-digit s e = fits-at uetrPattern s 19 e (lit< tt)
+
+four-worth : hexValue 52 ≡ 4
+unfolding hexValue isDigit
+four-worth = refl
+
+-- the version's digit is stored as 4
+pub stored-version : (s : List ℕ) → isUetr s ≡ true → uetrOf s .high / 4096 % 16 ≡ 4
+unfolding uetrOf
+stored-version s e =
+    let h = uetr-hex s e in
+    rw e
+    (last-group-digit s 14 (fourFrom s 0) (fourFrom s 4) (fourFrom s 9) (h .3) ∙ ap hexValue (version-digit s e) ∙ four-worth)
+
+-- the two bits of the variant are stored as 2
+pub stored-variant : (s : List ℕ) → isUetr s ≡ true → uetrOf s .low / 2 ^ 62 ≡ 2
+unfolding uetrOf
+stored-variant s e =
+    let h = uetr-hex s e in
+    let top = first-group-digit s 19 (fourFrom s 24) (fourFrom s 28) (fourFrom s 32) (h .4) (four-fit s 24 (h .5)) (four-fit s 28 (h .6)) (four-fit s 32 (h .7)) in
+    let v = variant-value (getD s 19 0) (variant-digit s e) in
+    rw e (omega (arith, top, v .0, v .1))
 
 -- the same numbers are the same UETR
 same-uetr : (x y : Uetr) → sameUetr x y ≡ true → x ≡ y

@@ -61,6 +61,8 @@ use Rattle.shape.proofs.pattern.all_within.Kinds as all-within-kinds
 use Rattle.shape.proofs.pattern.all_within.Reads as all-within-reads
 use Rattle.shape.proofs.stored.identifier_of.Kinds as identifier-of-kinds
 use Rattle.shape.proofs.stored.identifier_of.Reads as identifier-of-reads
+use Rattle.shape.proofs.stored.text_of.Kinds as text-of-kinds
+use Rattle.shape.proofs.stored.text_of.Reads as text-of-reads
 use Rattle.shape.proofs.stored.same_identifier.Kinds as same-identifier-kinds
 use Rattle.shape.proofs.stored.same_identifier.Reads as same-identifier-reads
 use Rattle.shape.proofs.stored.is_uetr.Kinds as is-uetr-kinds
@@ -159,6 +161,9 @@ all-within κs a x y e f = by-equation
 
 pub identifier-of : Settled _ identifier-of-kinds.ps identifier-of-kinds.r identifier-of-reads.Post
 identifier-of κs a x y e f = by-equation
+
+pub text-of : Settled _ text-of-kinds.ps text-of-kinds.r text-of-reads.Post
+text-of κs a x y e f = by-equation
 
 pub same-identifier : Settled _ same-identifier-kinds.ps same-identifier-kinds.r same-identifier-reads.Post
 same-identifier κs a x y e f = by-equation

@@ -6,13 +6,14 @@ use mathlib.Core.Bool.{Bool, _&&_, cond}
 use mathlib.Core.List.{List, [], _∷_, _++_, map}
 use Prim.Native.Nat.{ℕ, _+_, _*_, _/_, _%_, _^_}
 use lib.Dec.{ltb, eqb}
-use lib.ListN.{getD, replicate}
+use lib.ListN.{length, getD, replicate}
 use Rattle.shape.specs.Bits.{joined, cut}
 use Rattle.shape.specs.Numbers.{hexValue}
 use Rattle.shape.specs.Patterns.{fits, uetrPattern}
 use Rattle.shape.specs.Fields.{isIdentifier}
 use Rattle.shape.specs.declared.stored.Identifier.{Identifier}
 use Rattle.shape.specs.declared.stored.Uetr.{Uetr}
+use Rattle.shape.specs.declared.stored.Text.{Text}
 
 -- seven bytes from a place on, as one number; past the end of the text they are zeros
 unfoldable pub sevenFrom : List ℕ → ℕ → ℕ
@@ -39,11 +40,17 @@ beforeZero (b ∷ s) = cond (eqb b 0) [] (b ∷ beforeZero s)
 abbrev pub sevenBytes : ℕ → List ℕ
 sevenBytes n = map (λ (f : ℕ × ℕ). f .1) (cut (replicate 7 8) n)
 
--- the text that is stored
+-- all 35 bytes, and the text that is stored
+unfoldable pub allBytes : Identifier → List ℕ
+allBytes x =
+    sevenBytes (x .first) ++ (sevenBytes (x .second) ++ (sevenBytes (x .third) ++ (sevenBytes (x .fourth) ++ sevenBytes (x .fifth))))
+
 unfoldable pub identifierText : Identifier → List ℕ
-identifierText x =
-    beforeZero
-    (sevenBytes (x .first) ++ (sevenBytes (x .second) ++ (sevenBytes (x .third) ++ (sevenBytes (x .fourth) ++ sevenBytes (x .fifth)))))
+identifierText x = beforeZero (allBytes x)
+
+-- the same as the code hands it on: all bytes, and how many of them are the text's
+unfoldable pub storedText : Identifier → Text
+storedText x = record { bytes = allBytes x; length = length (identifierText x) }
 
 -- four hexadecimal digits from a place on, as one number
 unfoldable pub fourFrom : List ℕ → ℕ → ℕ

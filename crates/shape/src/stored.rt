@@ -6,7 +6,7 @@ use crate::pattern::matches;
 ghost use mathlib.Core.Path.{_≡_};
 ghost use Prim.Native.Nat.{_<_, _≤_, _+_, _^_};
 ghost use lib.ListN.{length};
-ghost use Rattle.shape.specs.Stored.{sevenFrom, identifierOf, sameIdentifier, fourFrom, groups, isUetr, uetrOf, sameUetr};
+ghost use Rattle.shape.specs.Stored.{sevenFrom, identifierOf, sameIdentifier, beforeZero, sevenBytes, allBytes, storedText, fourFrom, groups, isUetr, uetrOf, sameUetr};
 
 // The 35 bytes of an identifier, seven to a number.
 pub struct Identifier {
@@ -52,6 +52,100 @@ pub fn identifier_of(s: &[u8]) -> Identifier
         third: 0,
         fourth: 0,
         fifth: 0,
+    }
+}
+
+// The text of a stored identifier: the 35 bytes of its numbers, and how many of them come before the first zero.
+pub struct Text {
+    pub bytes: [u8; 35],
+    pub length: usize,
+}
+
+// Seven bytes of a number, the highest first.
+fn seven_bytes(n: u64) -> [u8; 7]
+    ensures { λ r. ⌜ r ≡ sevenBytes n ⌝ }
+{
+    [
+        (n / 281474976710656 % 256) as u8,
+        (n / 1099511627776 % 256) as u8,
+        (n / 4294967296 % 256) as u8,
+        (n / 16777216 % 256) as u8,
+        (n / 65536 % 256) as u8,
+        (n / 256 % 256) as u8,
+        (n % 256) as u8,
+    ]
+}
+
+// All bytes of a stored identifier.
+fn all_bytes(x: Identifier) -> [u8; 35]
+    ensures { λ r. ⌜ r ≡ allBytes x ⌝ }
+{
+    let a = seven_bytes(x.first);
+    let b = seven_bytes(x.second);
+    let c = seven_bytes(x.third);
+    let d = seven_bytes(x.fourth);
+    let e = seven_bytes(x.fifth);
+    [
+        a[0],
+        a[1],
+        a[2],
+        a[3],
+        a[4],
+        a[5],
+        a[6],
+        b[0],
+        b[1],
+        b[2],
+        b[3],
+        b[4],
+        b[5],
+        b[6],
+        c[0],
+        c[1],
+        c[2],
+        c[3],
+        c[4],
+        c[5],
+        c[6],
+        d[0],
+        d[1],
+        d[2],
+        d[3],
+        d[4],
+        d[5],
+        d[6],
+        e[0],
+        e[1],
+        e[2],
+        e[3],
+        e[4],
+        e[5],
+        e[6],
+    ]
+}
+
+// How many bytes come before the first zero.
+fn before_zero(s: &[u8]) -> usize
+    ensures { λ r. ⌜ r ≡ length (beforeZero (now (s .entry))) ⌝ }
+{
+    let mut i = 0;
+    while i < s.len() {
+        if s[i] == 0 {
+            return i;
+        }
+        i += 1;
+    }
+    i
+}
+
+// The text that is stored.
+pub fn text_of(x: Identifier) -> Text
+    ensures { λ r. ⌜ r ≡ storedText x ⌝ }
+{
+    let bytes = all_bytes(x);
+    Text {
+        bytes,
+        length: before_zero(&bytes),
     }
 }
 

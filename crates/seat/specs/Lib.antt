@@ -1,0 +1,4 @@
+pub mod Steps
+pub mod Working
+pub mod Fit
+pub mod Low

@@ -1,0 +1,119 @@
+-- What a step of the journal can be, by itself: document 01, "Room, seats, directory" ("ranges are right") and what a step stores. What its kind
+-- lacks is zero; a movement stands exactly where a transfer was carried out, settings exactly in a set.
+use mathlib.Core.Bool.{Bool, not, _&&_, _||_, cond}
+use Prim.Native.Nat.{ℕ, _+_, _/_, _%_, _^_}
+use lib.Dec.{leb, ltb, eqb}
+use Rattle.shape.specs.Dates.{isTime}
+use Rattle.shape.specs.Fields.{isIdentifier}
+use Rattle.shape.specs.Stored.{identifierOf, identifierText, sameIdentifier}
+use Rattle.shape.specs.declared.stored.Identifier.{Identifier}
+use Rattle.shape.specs.declared.stored.Uetr.{Uetr}
+use Rattle.table.specs.declared.Kind.the-variants.{Pacs008, Camt050}
+use Rattle.slip.specs.Meaning.{kindNumber, statusNumber, says}
+use Rattle.slip.specs.declared.Status.the-variants.{Accc}
+use Rattle.directory.specs.Directory.{codeMost}
+use Rattle.layout.specs.declared.rows.Settings.{Settings}
+use Rattle.layout.specs.declared.rows.Step.{Step}
+use Rattle.layout.specs.Seat.{accounts}
+
+-- a set is a step of its own kind, behind the three kinds of messages
+abbrev pub setKind : ℕ
+setKind = 4
+
+-- opening sums, LTK and LPO are 0 to 10^15; an amount is at most 99999999999.99
+abbrev pub sumMost : ℕ
+sumMost = 1000000000000000
+
+abbrev pub amountMost : ℕ
+amountMost = 9999999999999
+
+-- blocks are 0 or 1; LPO is stored as 0 for none and n + 1 for n
+unfoldable pub settingsFit : Settings → Bool
+settingsFit x = leb (x .out) 1 && leb (x .into) 1 && leb (x .ltk) sumMost && leb (x .lpo) (sumMost + 1)
+
+unfoldable pub sameSettings : Settings → Settings → Bool
+sameSettings x y = eqb (x .out) (y .out) && eqb (x .into) (y .into) && eqb (x .ltk) (y .ltk) && eqb (x .lpo) (y .lpo)
+
+abbrev pub noSettings : Settings
+noSettings = record { out = 0; into = 0; ltk = 0; lpo = 0 }
+
+abbrev pub noIdentifier : Identifier
+noIdentifier = record { first = 0; second = 0; third = 0; fourth = 0; fifth = 0 }
+
+-- the numbers are what an identifier is stored as, 1 to 35 text bytes with zeros behind them
+unfoldable pub isStored : Identifier → Bool
+isStored x = isIdentifier (identifierText x) && sameIdentifier (identifierOf (identifierText x)) x
+
+-- the numbers are what a UETR is stored as: the version's digit is 4, the variant's 8 to b
+unfoldable pub isStoredUetr : Uetr → Bool
+isStoredUetr x = eqb (x .high / 4096 % 16) 4 && eqb (x .low / 2 ^ 62) 2
+
+unfoldable pub noMessage : Step → Bool
+noMessage x =
+    eqb (x .status) 0 && eqb (x .check) 0 && eqb (x .sender) 0
+    && sameIdentifier (x .id) noIdentifier
+    && eqb (x .uetr .high) 0 && eqb (x .uetr .low) 0 && eqb (x .created) 0
+    && sameIdentifier (x .reference) noIdentifier
+
+unfoldable pub noMovement : Step → Bool
+noMovement x = eqb (x .debit) 0 && eqb (x .credit) 0 && eqb (x .amount) 0
+
+unfoldable pub noSet : Step → Bool
+noSet x = eqb (x .account) 0 && sameSettings (x .old) noSettings && sameSettings (x .given) noSettings
+
+-- a set has an account and settings, and nothing else
+unfoldable pub setFits : Step → Bool
+setFits x = noMessage x && noMovement x && ltb (x .account) accounts && settingsFit (x .old) && settingsFit (x .given)
+
+abbrev pub isKind : ℕ → Step → Bool
+isKind kind x = eqb (x .kind) kind
+
+-- a transfer that was carried out
+unfoldable pub carriedOut : Step → Bool
+carriedOut x = eqb (x .status) (statusNumber Accc) && (isKind (kindNumber Pacs008) x || isKind (kindNumber Camt050) x)
+
+-- camt.050 moves between the two accounts of one place, pacs.008 between accounts 2
+unfoldable pub between : Step → Bool
+between x =
+    cond (isKind (kindNumber Camt050) x)
+    (eqb (x .debit / 2) (x .credit / 2) && not (eqb (x .debit) (x .credit)))
+    (eqb (x .debit % 2) 1 && eqb (x .credit % 2) 1)
+
+unfoldable pub movementFits : Step → Bool
+movementFits x =
+    cond (carriedOut x)
+    (leb 1 (x .amount) && leb (x .amount) amountMost && ltb (x .debit) accounts && ltb (x .credit) accounts && between x)
+    (noMovement x)
+
+-- a camt.050 has no end-to-end identifier
+unfoldable pub referenceFits : Step → Bool
+referenceFits x = cond (isKind (kindNumber Camt050) x) (sameIdentifier (x .reference) noIdentifier) (isStored (x .reference))
+
+-- a message has a result that is possible for its kind
+unfoldable pub messageFits : Step → Bool
+messageFits x =
+    says (x .kind) (x .status) (x .check) && leb (x .sender) codeMost
+    && isStored (x .id) && isStoredUetr (x .uetr) && isTime (x .created)
+    && referenceFits x && movementFits x && noSet x
+
+unfoldable pub stepFits : Step → Bool
+stepFits x = cond (isKind setKind x) (setFits x) (messageFits x)
+
+-- no step
+abbrev pub noStep : Step
+noStep = record {
+  kind = 0;
+  status = 0;
+  check = 0;
+  sender = 0;
+  id = noIdentifier;
+  uetr = record { high = 0; low = 0 };
+  created = 0;
+  reference = noIdentifier;
+  debit = 0;
+  credit = 0;
+  amount = 0;
+  account = 0;
+  old = noSettings;
+  given = noSettings;
+}
