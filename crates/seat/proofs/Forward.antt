@@ -54,7 +54,7 @@ same-itself [] = refl
 same-itself (a ∷ s) = rw (eq-eqb a a refl, same-itself s)
 
 -- working forward by one step
-worked-none : (s : List ℕ) → worked [] s ≡ some s
+pub worked-none : (s : List ℕ) → worked [] s ≡ some s
 unfolding worked
 worked-none s = refl
 
@@ -72,10 +72,10 @@ module _ (x : Step) (xs : List Step) (s t : List ℕ) (w : worked (x ∷ xs) s �
   both : (possible x s ≡ true) × (worked xs (stepped x s) ≡ some t)
   both = by-test (possible x s) refl (sym (worked-first x xs s) ∙ w)
 
-  first-possible : possible x s ≡ true
+  pub first-possible : possible x s ≡ true
   first-possible = both .0
 
-  rest-worked : worked xs (stepped x s) ≡ some t
+  pub rest-worked : worked xs (stepped x s) ≡ some t
   rest-worked = both .1
 
 -- one step more at the end
@@ -292,11 +292,11 @@ fit-made opening sums xs t a b l e few w =
       comes = rw (number, stand, journal) w;
     })
 
-sums-long : (s : List ℕ) → length (sumsOf s) ≡ accounts
+pub sums-long : (s : List ℕ) → length (sumsOf s) ≡ accounts
 unfolding sumsOf
 sums-long s = sums-length s 0 accounts
 
-journal-long : (s : List ℕ) → length (journalOf s) ≡ headOf s .steps
+pub journal-long : (s : List ℕ) → length (journalOf s) ≡ headOf s .steps
 unfolding journalOf
 journal-long s = steps-length s 0 (headOf s .steps)
 
@@ -311,7 +311,7 @@ fit-more x s l e b p =
     (worked-more x (journalOf s) (openSeat (headOf s .opening) (sumsOf s)) s (f .comes) p)
 
 -- a journal that has steps, with its last one apart
-journal-last : (s : List ℕ) → 1 ≤ headOf s .steps
+pub journal-last : (s : List ℕ) → 1 ≤ headOf s .steps
     → journalOf s ≡ stepsFrom s 0 (headOf s .steps - 1) ++ (stepOf s (headOf s .steps - 1) ∷ [])
 unfolding journalOf
 journal-last s h =

@@ -1,8 +1,62 @@
--- Of the public function: no second answer satisfies its contract.
+-- Of each public function: no second answer satisfies its contract, and no second seat behind it.
 -- Assumes nothing.
-use Rattle.shape.proofs.Single.{Settled, by-equation}
+use mathlib.Core.Path.{refl}
+use mathlib.Core.List.{List}
+use Prim.Native.Nat.{ℕ}
+use denote.Ref.{now}
+use Rattle.shape.proofs.Single.{Settled, SettledWith, by-equation, by-equations}
 use Rattle.seat.proofs.steps.step_fits.Kinds as step-fits-kinds
 use Rattle.seat.proofs.steps.step_fits.Reads as step-fits-reads
+use Rattle.seat.proofs.working.is_possible.Kinds as is-possible-kinds
+use Rattle.seat.proofs.working.is_possible.Reads as is-possible-reads
+use Rattle.seat.proofs.working.append.Kinds as append-kinds
+use Rattle.seat.proofs.working.append.Reads as append-reads
+use Rattle.seat.proofs.working.drop_last.Kinds as drop-last-kinds
+use Rattle.seat.proofs.working.drop_last.Reads as drop-last-reads
+use Rattle.seat.proofs.fit.seat_fits.Kinds as seat-fits-kinds
+use Rattle.seat.proofs.fit.seat_fits.Reads as seat-fits-reads
+use Rattle.seat.proofs.fit.room_fits.Kinds as room-fits-kinds
+use Rattle.seat.proofs.fit.room_fits.Reads as room-fits-reads
+use Rattle.seat.proofs.calls.open_seat.Kinds as open-seat-kinds
+use Rattle.seat.proofs.calls.open_seat.Reads as open-seat-reads
+use Rattle.seat.proofs.calls.close_seat.Kinds as close-seat-kinds
+use Rattle.seat.proofs.calls.close_seat.Reads as close-seat-reads
+use Rattle.seat.proofs.calls.set_account.Kinds as set-account-kinds
+use Rattle.seat.proofs.calls.set_account.Reads as set-account-reads
+use Rattle.seat.proofs.calls.take_back.Kinds as take-back-kinds
+use Rattle.seat.proofs.calls.take_back.Reads as take-back-reads
+use Rattle.seat.proofs.calls.read_account.Kinds as read-account-kinds
+use Rattle.seat.proofs.calls.read_account.Reads as read-account-reads
 
 pub step-fits : Settled _ step-fits-kinds.ps step-fits-kinds.r step-fits-reads.Post
 step-fits κs a x y e f = by-equation
+
+pub is-possible : Settled _ is-possible-kinds.ps is-possible-kinds.r is-possible-reads.Post
+is-possible κs a x y e f = by-equation
+
+pub append : SettledWith _ append-kinds.ps append-kinds.r append-reads.Post (List ℕ) (λ κs e. now (e .0))
+append κs a x y e f p q = (refl, by-equation p q)
+
+pub drop-last : SettledWith _ drop-last-kinds.ps drop-last-kinds.r drop-last-reads.Post (List ℕ) (λ κs e. now (e .0))
+drop-last κs a x y e f p q = (refl, by-equation p q)
+
+pub seat-fits : Settled _ seat-fits-kinds.ps seat-fits-kinds.r seat-fits-reads.Post
+seat-fits κs a x y e f = by-equation
+
+pub room-fits : Settled _ room-fits-kinds.ps room-fits-kinds.r room-fits-reads.Post
+room-fits κs a x y e f = by-equation
+
+pub open-seat : SettledWith _ open-seat-kinds.ps open-seat-kinds.r open-seat-reads.Post (List ℕ) (λ κs e. now (e .0))
+open-seat κs a x y e f = by-equations
+
+pub close-seat : SettledWith _ close-seat-kinds.ps close-seat-kinds.r close-seat-reads.Post (List ℕ) (λ κs e. now (e .0))
+close-seat κs a x y e f = by-equations
+
+pub set-account : SettledWith _ set-account-kinds.ps set-account-kinds.r set-account-reads.Post (List ℕ) (λ κs e. now (e .0))
+set-account κs a x y e f = by-equations
+
+pub take-back : SettledWith _ take-back-kinds.ps take-back-kinds.r take-back-reads.Post (List ℕ) (λ κs e. now (e .0))
+take-back κs a x y e f = by-equations
+
+pub read-account : Settled _ read-account-kinds.ps read-account-kinds.r read-account-reads.Post
+read-account κs a x y e f = by-equation

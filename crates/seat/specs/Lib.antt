@@ -2,3 +2,4 @@ pub mod Steps
 pub mod Working
 pub mod Fit
 pub mod Low
+pub mod Calls

@@ -1,0 +1,146 @@
+-- The calls of one seat that need no message, and recording one: document 01, "Calls and refusals". Of each call the answer, which is the first
+-- refusal in its table whose test holds, and the seat behind it, which is as it came where the call is refused.
+-- Refusals 1 and 2 are tests of the whole room and of the directory, and stand in front of these.
+use mathlib.Core.Bool.{Bool, true, false, not, _&&_, _||_, cond}
+use mathlib.Core.List.{List, [], _∷_}
+use Prim.Native.Nat.{ℕ, suc, _+_, _-_, _*_}
+use lib.Dec.{leb, ltb, eqb}
+use Rattle.slip.specs.Meaning.{openings, steps}
+use Rattle.directory.specs.declared.Participant.{Participant}
+use Rattle.directory.specs.declared.Found.{Found}
+use Rattle.directory.specs.declared.Found.the-variants.{At, Missing}
+use Rattle.directory.specs.Directory.{isOwner, ownerFound}
+use Rattle.layout.specs.declared.rows.Settings.{Settings}
+use Rattle.layout.specs.declared.rows.Account.{Account}
+use Rattle.layout.specs.declared.rows.Step.{Step}
+use Rattle.layout.specs.Seat.{places, headOf, accountOf}
+use Rattle.seat.specs.declared.calls.Answer.{Answer}
+use Rattle.seat.specs.declared.calls.Answer.the-variants.{Done, NoTicket, AlreadyOpen, NoOpeningLeft, BadNumber, JournalFull, NothingToTakeBack}
+use Rattle.seat.specs.Steps.{setKind, sumMost, settingsFit, noSettings, noIdentifier}
+use Rattle.seat.specs.Working.{stepped, backed}
+use Rattle.seat.specs.Fit.{closedSeat, openSeat}
+
+-- document 01's numbers
+unfoldable pub numberOf : Answer → ℕ
+numberOf Done = 0
+numberOf NoTicket = 3
+numberOf AlreadyOpen = 4
+numberOf NoOpeningLeft = 5
+numberOf BadNumber = 6
+numberOf JournalFull = 9
+numberOf NothingToTakeBack = 10
+
+abbrev pub isDone : Answer → Bool
+isDone Done = true
+isDone NoTicket = false
+isDone AlreadyOpen = false
+isDone NoOpeningLeft = false
+isDone BadNumber = false
+isDone JournalFull = false
+isDone NothingToTakeBack = false
+
+-- the first refusal whose test holds
+abbrev pub first : List (Bool × Answer) → Answer
+first [] = Done
+first (r ∷ rest) = cond (r .0) (r .1) (first rest)
+
+-- the seat behind a call: done, or as it came
+abbrev pub behind : Answer → List ℕ → List ℕ → List ℕ
+behind answer done s = cond (isDone answer) done s
+
+-- 3: the seat is closed or its opening number differs
+unfoldable pub noTicket : ℕ → List ℕ → Bool
+noTicket opening s = not (eqb (headOf s .opened) 1 && eqb (headOf s .opening) opening)
+
+-- two sums for each record, each at most 10^15, and 0 for one that is no owner
+unfoldable pub pairGood : Participant → ℕ → ℕ → Bool
+pairGood p a b = leb a sumMost && leb b sumMost && (isOwner (p .kind) || (eqb a 0 && eqb b 0))
+
+unfoldable pub sumsGood : List Participant → List ℕ → Bool
+sumsGood [] [] = true
+sumsGood [] (a ∷ sums) = false
+sumsGood (p ∷ dir) [] = false
+sumsGood (p ∷ dir) (a ∷ []) = false
+sumsGood (p ∷ dir) (a ∷ b ∷ sums) =
+    pairGood p a b && sumsGood dir sums
+
+-- open
+unfoldable pub openAnswer : List Participant → List ℕ → List ℕ → Answer
+openAnswer dir sums s =
+    first (
+    (eqb (headOf s .opened) 1, AlreadyOpen)
+    ∷ (eqb (headOf s .opening) openings, NoOpeningLeft)
+    ∷ (not (sumsGood dir sums), BadNumber)
+    ∷ [])
+
+unfoldable pub openAfter : List Participant → List ℕ → List ℕ → List ℕ
+openAfter dir sums s = behind (openAnswer dir sums s) (openSeat (suc (headOf s .opening)) sums) s
+
+-- close
+unfoldable pub closeAnswer : ℕ → List ℕ → Answer
+closeAnswer opening s = first ((noTicket opening s, NoTicket) ∷ [])
+
+unfoldable pub closeAfter : ℕ → List ℕ → List ℕ
+closeAfter opening s = behind (closeAnswer opening s) (closedSeat (headOf s .opening)) s
+
+-- an account is named by its owner's place and by 1 or 2
+unfoldable pub accountNamed : Found → ℕ → Bool
+accountNamed owner number = ownerFound owner && (eqb number 1 || eqb number 2)
+
+abbrev pub accountNumber : Found → ℕ → ℕ
+accountNumber (At place p) number = 2 * place + (number - 1)
+accountNumber Missing number = 0
+
+-- a place that a seat has
+abbrev pub placeFits : Found → Bool
+placeFits (At place p) = ltb place places
+placeFits Missing = true
+
+-- set
+abbrev pub setStep : ℕ → Settings → Settings → Step
+setStep account old given = record {
+  kind = setKind;
+  status = 0;
+  check = 0;
+  sender = 0;
+  id = noIdentifier;
+  uetr = record { high = 0; low = 0 };
+  created = 0;
+  reference = noIdentifier;
+  debit = 0;
+  credit = 0;
+  amount = 0;
+  account = account;
+  old = old;
+  given = given;
+}
+
+unfoldable pub setAnswer : ℕ → Found → ℕ → Settings → List ℕ → Answer
+setAnswer opening owner number given s =
+    first (
+    (noTicket opening s, NoTicket)
+    ∷ (not (accountNamed owner number && settingsFit given), BadNumber)
+    ∷ (eqb (headOf s .steps) steps, JournalFull)
+    ∷ [])
+
+unfoldable pub setAfter : ℕ → Found → ℕ → Settings → List ℕ → List ℕ
+setAfter opening owner number given s =
+    behind (setAnswer opening owner number given s)
+    (stepped (setStep (accountNumber owner number) (accountOf s (accountNumber owner number) .settings) given) s) s
+
+-- take back
+unfoldable pub backAnswer : ℕ → List ℕ → Answer
+backAnswer opening s = first ((noTicket opening s, NoTicket) ∷ (eqb (headOf s .steps) 0, NothingToTakeBack) ∷ [])
+
+unfoldable pub backAfter : ℕ → List ℕ → List ℕ
+backAfter opening s = behind (backAnswer opening s) (backed s) s
+
+-- read an account; a refused read has zeros
+unfoldable pub readAnswer : ℕ → Found → ℕ → List ℕ → Answer
+readAnswer opening owner number s = first ((noTicket opening s, NoTicket) ∷ (not (accountNamed owner number), BadNumber) ∷ [])
+
+abbrev pub noAccount : Account
+noAccount = record { opening = 0; balance = 0; turnover = 0; settings = noSettings }
+
+unfoldable pub readValue : ℕ → Found → ℕ → List ℕ → Account
+readValue opening owner number s = cond (isDone (readAnswer opening owner number s)) (accountOf s (accountNumber owner number)) noAccount
