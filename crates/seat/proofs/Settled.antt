@@ -25,6 +25,8 @@ use Rattle.seat.proofs.calls.set_account.Kinds as set-account-kinds
 use Rattle.seat.proofs.calls.set_account.Reads as set-account-reads
 use Rattle.seat.proofs.calls.take_back.Kinds as take-back-kinds
 use Rattle.seat.proofs.calls.take_back.Reads as take-back-reads
+use Rattle.seat.proofs.calls.settings_of.Kinds as settings-of-kinds
+use Rattle.seat.proofs.calls.settings_of.Reads as settings-of-reads
 use Rattle.seat.proofs.calls.read_account.Kinds as read-account-kinds
 use Rattle.seat.proofs.calls.read_account.Reads as read-account-reads
 
@@ -60,3 +62,6 @@ take-back κs a x y e f = by-equations
 
 pub read-account : Settled _ read-account-kinds.ps read-account-kinds.r read-account-reads.Post
 read-account κs a x y e f = by-equation
+
+pub settings-of : Settled _ settings-of-kinds.ps settings-of-kinds.r settings-of-reads.Post
+settings-of κs a x y e f = by-equation

@@ -16,6 +16,9 @@ use Rattle.layout.specs.declared.rows.Step.{Step}
 use Rattle.layout.specs.Seat.{places, headOf, accountOf}
 use Rattle.seat.specs.declared.calls.Answer.{Answer}
 use Rattle.seat.specs.declared.calls.Answer.the-variants.{Done, NoTicket, AlreadyOpen, NoOpeningLeft, BadNumber, JournalFull, NothingToTakeBack}
+use Rattle.seat.specs.declared.calls.Limit.{Limit}
+use Rattle.seat.specs.declared.calls.Limit.the-variants.{None, Of}
+use Rattle.seat.specs.declared.calls.Wish.{Wish}
 use Rattle.seat.specs.Steps.{setKind, sumMost, settingsFit, noSettings, noIdentifier}
 use Rattle.seat.specs.Working.{stepped, backed}
 use Rattle.seat.specs.Fit.{closedSeat, openSeat}
@@ -95,6 +98,17 @@ accountNumber Missing number = 0
 abbrev pub placeFits : Found → Bool
 placeFits (At place p) = ltb place places
 placeFits Missing = true
+
+-- settings as they are stored: a block as 0 or 1; LPO as 0 for none and n + 1 for n. One that is too high stays too high
+abbrev pub blockNumber : Bool → ℕ
+blockNumber on = cond on 1 0
+
+unfoldable pub limitNumber : Limit → ℕ
+limitNumber None = 0
+limitNumber (Of n) = cond (leb n sumMost) (n + 1) (sumMost + 2)
+
+unfoldable pub settingsOf : Wish → Settings
+settingsOf w = record { out = blockNumber (w .out); into = blockNumber (w .into); ltk = w .ltk; lpo = limitNumber (w .lpo) }
 
 -- set
 abbrev pub setStep : ℕ → Settings → Settings → Step

@@ -9,11 +9,14 @@ mod steps;
 mod working;
 
 pub use calls::Answer;
+pub use calls::Limit;
 pub use calls::Reading;
+pub use calls::Wish;
 pub use calls::close_seat;
 pub use calls::open_seat;
 pub use calls::read_account;
 pub use calls::set_account;
+pub use calls::settings_of;
 pub use calls::take_back;
 pub use fit::room_fits;
 pub use fit::seat_fits;
