@@ -1,3 +1,4 @@
+pub mod Above
 pub mod Answered
 pub mod Asked
 pub mod Backed

@@ -17,6 +17,8 @@ use Rattle.seat.proofs.fit.seat_fits.Kinds as seat-fits-kinds
 use Rattle.seat.proofs.fit.seat_fits.Reads as seat-fits-reads
 use Rattle.seat.proofs.fit.room_fits.Kinds as room-fits-kinds
 use Rattle.seat.proofs.fit.room_fits.Reads as room-fits-reads
+use Rattle.seat.proofs.limits.available_below.Kinds as available-below-kinds
+use Rattle.seat.proofs.limits.available_below.Reads as available-below-reads
 use Rattle.seat.proofs.calls.open_seat.Kinds as open-seat-kinds
 use Rattle.seat.proofs.calls.open_seat.Reads as open-seat-reads
 use Rattle.seat.proofs.calls.close_seat.Kinds as close-seat-kinds
@@ -65,3 +67,6 @@ read-account κs a x y e f = by-equation
 
 pub settings-of : Settled _ settings-of-kinds.ps settings-of-kinds.r settings-of-reads.Post
 settings-of κs a x y e f = by-equation
+
+pub available-below : Settled _ available-below-kinds.ps available-below-kinds.r available-below-reads.Post
+available-below κs a x y e f = by-equation

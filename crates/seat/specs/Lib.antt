@@ -3,3 +3,4 @@ pub mod Working
 pub mod Fit
 pub mod Low
 pub mod Calls
+pub mod Limits

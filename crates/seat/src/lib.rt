@@ -5,6 +5,7 @@
 
 mod calls;
 mod fit;
+mod limits;
 mod steps;
 mod working;
 
@@ -20,6 +21,7 @@ pub use calls::settings_of;
 pub use calls::take_back;
 pub use fit::room_fits;
 pub use fit::seat_fits;
+pub use limits::available_below;
 pub use steps::step_fits;
 pub use working::append;
 pub use working::drop_last;
