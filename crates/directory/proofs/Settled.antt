@@ -17,6 +17,26 @@ use Rattle.directory.proofs.in_sep.Kinds as in-sep-kinds
 use Rattle.directory.proofs.in_sep.Reads as in-sep-reads
 use Rattle.directory.proofs.account_code.Kinds as account-code-kinds
 use Rattle.directory.proofs.account_code.Reads as account-code-reads
+use Rattle.directory.proofs.under_sep.Kinds as under-sep-kinds
+use Rattle.directory.proofs.under_sep.Reads as under-sep-reads
+use Rattle.directory.proofs.under_asp.Kinds as under-asp-kinds
+use Rattle.directory.proofs.under_asp.Reads as under-asp-reads
+use Rattle.directory.proofs.place_in.Kinds as place-in-kinds
+use Rattle.directory.proofs.place_in.Reads as place-in-reads
+use Rattle.directory.proofs.account_in.Kinds as account-in-kinds
+use Rattle.directory.proofs.account_in.Reads as account-in-reads
+
+pub under-sep : Settled _ under-sep-kinds.ps under-sep-kinds.r under-sep-reads.Post
+under-sep κs a x y e f = by-equation
+
+pub under-asp : Settled _ under-asp-kinds.ps under-asp-kinds.r under-asp-reads.Post
+under-asp κs a x y e f = by-equation
+
+pub place-in : Settled _ place-in-kinds.ps place-in-kinds.r place-in-reads.Post
+place-in κs a x y e f = by-equation
+
+pub account-in : Settled _ account-in-kinds.ps account-in-kinds.r account-in-reads.Post
+account-in κs a x y e f = by-equation
 
 pub fits : Settled _ fits-kinds.ps fits-kinds.r fits-reads.Post
 fits κs a x y e f = by-equation

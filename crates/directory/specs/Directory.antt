@@ -1,6 +1,6 @@
 -- The directory of document 01, "Room, seats, directory", as a list of participants: when it is fit, the record of a code, who is listed, and
 -- whose accounts a participant uses.
-use mathlib.Core.Bool.{Bool, true, false, _&&_, _||_, cond}
+use mathlib.Core.Bool.{Bool, true, false, not, _&&_, cond}
 use mathlib.Core.List.{List, [], _∷_}
 use Prim.Native.Nat.{ℕ, suc}
 use lib.Dec.{leb, ltb, eqb}
@@ -73,3 +73,30 @@ accountCode code Owner = Of code
 accountCode code (Direct head) = Of head
 accountCode code (Indirect head) = None
 accountCode code (Provider bank) = None
+
+-- what was found of a code is listed under `SEP`, or under `ASP`
+abbrev pub underSep : Found → Bool
+underSep (At place p) = inSep (p .kind)
+underSep Missing = false
+
+abbrev pub underAsp : Found → Bool
+underAsp (At place p) = not (inSep (p .kind))
+underAsp Missing = false
+
+-- the place of a code
+abbrev pub placeIn : Found → Value
+placeIn (At place p) = Of place
+placeIn Missing = None
+
+-- the code whose accounts are used by what was found
+abbrev pub accountIn : Found → Value
+accountIn (At place p) = accountCode (p .code) (p .kind)
+accountIn Missing = None
+
+abbrev pub placeNamed : List Participant → Value → Value
+placeNamed dir (Of code) = placeIn (found dir code)
+placeNamed dir None = None
+
+-- the account place of a code: an owner's own, a direct branch's head's, else none
+unfoldable pub accountPlace : List Participant → ℕ → Value
+accountPlace dir code = placeNamed dir (accountIn (found dir code))

@@ -8,7 +8,7 @@ ghost use Prim.Native.Nat.{_<_, _^_};
 ghost use lib.Dec.{leb};
 ghost use Rattle.shape.specs.Bytes.{every};
 ghost use Rattle.directory.specs.declared.Participant.{Participant};
-ghost use Rattle.directory.specs.Directory.{codeMost, found, isOwner, ownerFound, names, ascending, inSep, accountCode};
+ghost use Rattle.directory.specs.Directory.{codeMost, found, isOwner, ownerFound, names, ascending, inSep, accountCode, underSep, underAsp, placeIn, accountIn};
 ghost use Rattle.directory.specs.Gathering.{nobody, noneGathered, added, gathered, looked, recordsIn, fitGathered};
 
 // The highest code.
@@ -235,5 +235,51 @@ pub fn account_code(p: Participant) -> Value
         Kind::Direct(head) => Value::Of(head),
         Kind::Indirect(_head) => Value::None,
         Kind::Provider(_bank) => Value::None,
+    }
+}
+
+// Whether what was found of a code is listed under `SEP`.
+pub fn under_sep(f: Found) -> bool
+    ensures { λ r. ⌜ r ≡ underSep f ⌝ }
+{
+    match f {
+        Found::At(_place, p) => {
+            let kind = p.kind;
+            in_sep(kind)
+        }
+        Found::Missing => false,
+    }
+}
+
+// Whether it is listed under `ASP`.
+pub fn under_asp(f: Found) -> bool
+    ensures { λ r. ⌜ r ≡ underAsp f ⌝ }
+{
+    match f {
+        Found::At(_place, p) => {
+            let kind = p.kind;
+            !in_sep(kind)
+        }
+        Found::Missing => false,
+    }
+}
+
+// The place of what was found.
+pub fn place_in(f: Found) -> Value
+    ensures { λ r. ⌜ r ≡ placeIn f ⌝ }
+{
+    match f {
+        Found::At(place, _p) => Value::Of(place as u64),
+        Found::Missing => Value::None,
+    }
+}
+
+// The code whose accounts are used by what was found; its record is then looked up in turn.
+pub fn account_in(f: Found) -> Value
+    ensures { λ r. ⌜ r ≡ accountIn f ⌝ }
+{
+    match f {
+        Found::At(_place, p) => account_code(p),
+        Found::Missing => Value::None,
     }
 }
