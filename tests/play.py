@@ -85,4 +85,4 @@ play("close", seat.close(1))
 play("close", seat.close(1))
 play("open", seat.open([0, 0, 7, 8]))
 with open("crates/play/stdout", "w") as file:
-    file.write("".join(out))
+    file.write("room fit\n" + "".join(out) + "room fit\n")

@@ -1,10 +1,12 @@
-// A small lesson in one seat: open, set, record, take back, close, open. After each call it prints the answer's number and what the four
-// accounts of two owners hold: opening sum, balance, turnover, blocks, LTK, LPO.
+// A small lesson in one seat of a room: open, set, record, take back, close, open. After each call it prints the answer's number, the
+// seat's head and what the four accounts of two owners hold: opening sum, balance, turnover, blocks, LTK, LPO.
 // The program only plays and prints; what each call does is proved in `seat`.
 use directory::Found;
 use directory::Gathered;
 use directory::Kind;
 use directory::Participant;
+use layout::ROOM_LONG;
+use layout::SEAT_LONG;
 use layout::account;
 use layout::head;
 use layout::rows::Settings;
@@ -17,6 +19,7 @@ use seat::append;
 use seat::close_seat;
 use seat::is_possible;
 use seat::open_seat;
+use seat::room_fits;
 use seat::seat_fits;
 use seat::set_account;
 use seat::settings_of;
@@ -204,8 +207,8 @@ fn play_step(s: &mut [u64], x: Step) {
     show(s);
 }
 
-fn main() {
-    let mut room = [0u64; 923];
+// The lesson itself, in a seat's part of the room.
+fn in_seat(s: &mut [u64]) {
     let id = identifier_of(b"3000012024030100000001");
     let uetr = uetr_of(b"eb6305c9-1f7f-49de-aed0-16487c27b42d");
     let limits = Wish {
@@ -214,17 +217,42 @@ fn main() {
         ltk: 10000,
         lpo: Limit::Of(0),
     };
-    play_open(&mut room, &[50000, 10000, 0]);
-    play_open(&mut room, &[50000, 10000, 0, 0]);
-    play_set(&mut room, 1, 1, limits);
-    play_set(&mut room, 1, 3, limits);
-    play_step(&mut room, transfer(id, uetr, 50000));
-    play_step(&mut room, transfer(id, uetr, 1));
-    play_back(&mut room, 1);
-    play_back(&mut room, 2);
-    play_back(&mut room, 1);
-    play_back(&mut room, 1);
-    play_close(&mut room, 1);
-    play_close(&mut room, 1);
-    play_open(&mut room, &[0, 0, 7, 8]);
+    play_open(s, &[50000, 10000, 0]);
+    play_open(s, &[50000, 10000, 0, 0]);
+    play_set(s, 1, 1, limits);
+    play_set(s, 1, 3, limits);
+    play_step(s, transfer(id, uetr, 50000));
+    play_step(s, transfer(id, uetr, 1));
+    play_back(s, 1);
+    play_back(s, 2);
+    play_back(s, 1);
+    play_back(s, 1);
+    play_close(s, 1);
+    play_close(s, 1);
+    play_open(s, &[0, 0, 7, 8]);
+}
+
+fn tell_fitness(room: &[u64]) {
+    if room_fits(room) {
+        put(b"room fit\n");
+    } else {
+        put(b"room unfit\n");
+    }
+}
+
+// Plays in seat 3 of a room that was laid out, and looks at the whole room before and behind.
+fn lesson(room: &mut [u64]) {
+    if room.len() != ROOM_LONG {
+        return;
+    }
+    tell_fitness(room);
+    let from = 3 * SEAT_LONG;
+    let to = from + SEAT_LONG;
+    in_seat(&mut room[from..to]);
+    tell_fitness(room);
+}
+
+fn main() {
+    let mut room = [0u64; ROOM_LONG];
+    lesson(&mut room);
 }
