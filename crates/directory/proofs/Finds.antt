@@ -12,7 +12,7 @@ use borrow.Author.Tests.{ltb-true, eqb-true}
 use Rattle.shape.specs.Bytes.{every}
 use Rattle.shape.specs.declared.value.Value.{Value}
 use Rattle.shape.specs.declared.value.Value.the-variants.{Of, None}
-use Rattle.shape.proofs.Tests.{and-left, and-right}
+use Rattle.shape.proofs.Tests.{and-left, and-right, at-place}
 use Rattle.directory.specs.declared.Kind.{Kind}
 use Rattle.directory.specs.declared.Kind.the-variants.{Owner, Direct, Indirect, Provider}
 use Rattle.directory.specs.declared.Participant.{Participant}
@@ -67,12 +67,6 @@ named-found dir (Direct code) head e t = let same : code ≡ head = cc in rw (�
 named-found dir (Indirect code) head e t = let same : code ≡ head = cc in rw (← same) t
 named-found dir (Provider code) head e t = let same : code ≡ head = cc in rw (← same) t
 
--- a test that holds at each record holds at the one at i
-each : (t : Participant → Bool) (dir : List Participant) → every t dir ≡ true → (i : ℕ) → i < length dir → t (getD dir i nobody) ≡ true
-each t [] e i h = absurd (omega arith)
-each t (p ∷ dir) e zero h = and-left (t p) (every t dir) e
-each t (p ∷ dir) e (suc i) h = each t dir (and-right (t p) (every t dir) e) i (omega arith)
-
 fit-names : (dir : List Participant) → isFit dir ≡ true → every (λ (p : Participant). names dir (p .kind)) dir ≡ true
 unfolding isFit
 fit-names dir fit =
@@ -86,7 +80,7 @@ pub owner-named : (dir : List Participant) → isFit dir ≡ true → (i : ℕ) 
 owner-named dir fit i h head e =
     owner-there dir head (found dir head) refl
     (named-found dir (getD dir i nobody .kind) head e
-    (each (λ (p : Participant). names dir (p .kind)) dir (fit-names dir fit) i h))
+    (at-place (λ (p : Participant). names dir (p .kind)) dir nobody (fit-names dir fit) i h))
 
 ascending-rest : (p : Participant) (dir : List Participant) → ascending (p ∷ dir) ≡ true → ascending dir ≡ true
 ascending-rest p [] a = refl

@@ -11,7 +11,7 @@ use lib.Dec.{eqb}
 use lib.ListN.{length, getD, drop}
 use borrow.Author.Tests.{not-true}
 use Rattle.shape.specs.Bytes.{every}
-use Rattle.shape.proofs.Tests.{and-left, and-right}
+use Rattle.shape.proofs.Tests.{and-left, and-right, at-place}
 use Rattle.outline.specs.Paths.{sameName, samePath}
 use Rattle.table.specs.declared.Kind.{Kind}
 use Rattle.table.specs.declared.Kind.the-variants.{Pacs008, Camt050, Pacs028}
@@ -36,17 +36,12 @@ tested Pacs008 = refl
 tested Camt050 = refl
 tested Pacs028 = refl
 
-each : (t : Field → Bool) (fields : List Field) → every t fields ≡ true → (j : ℕ) → j < length fields → t (getD fields j noField) ≡ true
-each t [] e j h = absurd (omega arith)
-each t (f ∷ fields) e zero h = and-left (t f) (every t fields) e
-each t (f ∷ fields) e (suc j) h = each t fields (and-right (t f) (every t fields) e) j (le-of-suc-le-suc h)
-
 pairs : (fields : List Field) → allApart fields ≡ true → (i j : ℕ) → i < j → j < length fields
     → apart (getD fields i noField) (getD fields j noField) ≡ true
 unfolding allApart
 pairs [] e i j l h = absurd (omega arith)
 pairs (f ∷ fields) e i zero l h = absurd (omega arith)
-pairs (f ∷ fields) e zero (suc j) l h = each (apart f) fields (and-left (every (apart f) fields) (allApart fields) e) j (le-of-suc-le-suc h)
+pairs (f ∷ fields) e zero (suc j) l h = at-place (apart f) fields noField (and-left (every (apart f) fields) (allApart fields) e) j (le-of-suc-le-suc h)
 pairs (f ∷ fields) e (suc i) (suc j) l h =
     pairs fields (and-right (every (apart f) fields) (allApart fields) e) i j (le-of-suc-le-suc l) (le-of-suc-le-suc h)
 
@@ -63,4 +58,4 @@ below Camt050 = refl
 below Pacs028 = refl
 
 pub fields-below : (kind : Kind) (i : ℕ) → i < length (fieldsOf kind) → isFront (bodyOf kind) (getD (fieldsOf kind) i noField .path) ≡ true
-fields-below kind i h = each (λ (f : Field). isFront (bodyOf kind) (f .path)) (fieldsOf kind) (below kind) i h
+fields-below kind i h = at-place (λ (f : Field). isFront (bodyOf kind) (f .path)) (fieldsOf kind) noField (below kind) i h

@@ -10,14 +10,8 @@ use lib.Dec.{eqb, leb}
 use lib.ListN.{length, getD}
 use borrow.Author.Tests.{eqb-true, leb-true}
 use Rattle.shape.specs.Bytes.{every}
-use Rattle.shape.proofs.Tests.{and-left, and-right}
+use Rattle.shape.proofs.Tests.{and-left, and-right, at-place}
 use Rattle.paths.specs.Tree.{names, firsts}
-
--- law: what is tested of each entry holds of the one at a place
-at-place : {A : Type 0} (f : A → Bool) (xs : List A) (d : A) → every f xs ≡ true → (k : ℕ) → k < length xs → f (getD xs k d) ≡ true
-at-place f [] d t k h = absurd (omega arith)
-at-place f (x ∷ xs) d t zero h = and-left (f x) (every f xs) t
-at-place f (x ∷ xs) d t (suc k) h = at-place f xs d (and-right (f x) (every f xs) t) k (le-of-suc-le-suc h)
 
 -- a name has eighteen bytes, the last of them a blank
 is-line : List ℕ → Bool

@@ -1,10 +1,15 @@
--- Tests joined by `&&` and `||`, taken apart and put together.
+-- Tests joined by `&&` and `||`, taken apart and put together, and a test of every entry of a list.
 -- Assumes nothing.
 use mathlib.Core.Path.{_≡_, refl}
 use mathlib.Core.Bool.{Bool, true, false, _&&_, _||_, false≢true}
-use Prim.Native.Nat.{ℕ, _≤_}
+use mathlib.Core.List.{List, [], _∷_}
+use Prim.Native.Nat.{ℕ, zero, suc, _≤_, _<_}
+use native.Mathlib.Omega.{arith}
+use native.Mathlib.Nat.{le-of-suc-le-suc}
 use lib.Dec.{leb}
+use lib.ListN.{length, getD}
 use borrow.Author.Tests.{leb-true, le-leb}
+use Rattle.shape.specs.Bytes.{every}
 
 pub and-left : (t u : Bool) → (t && u) ≡ true → t ≡ true
 and-left true u e = refl
@@ -36,3 +41,9 @@ in-range lo hi b e = (leb-true lo b (and-left (leb lo b) (leb b hi) e), leb-true
 
 pub range-in : (lo hi b : ℕ) → lo ≤ b → b ≤ hi → (leb lo b && leb b hi) ≡ true
 range-in lo hi b h k = rw (le-leb lo b h, le-leb b hi k)
+
+-- what is tested of each entry of a list holds of the one at a place
+pub at-place : {A : Type 0} (f : A → Bool) (xs : List A) (d : A) → every f xs ≡ true → (k : ℕ) → k < length xs → f (getD xs k d) ≡ true
+at-place f [] d t k h = absurd (omega arith)
+at-place f (x ∷ xs) d t zero h = and-left (f x) (every f xs) t
+at-place f (x ∷ xs) d t (suc k) h = at-place f xs d (and-right (f x) (every f xs) t) k (le-of-suc-le-suc h)
