@@ -1,14 +1,14 @@
 -- What a directory's record says: the record that is found of a code is that code's, a fit directory has the owner of each code that a
--- record names, and an ascending one has each code in one place.
+-- record names and so the owner whose accounts a bank uses, and an ascending one has each code in one place.
 -- Assumes nothing.
-use mathlib.Core.Path.{_≡_, refl}
+use mathlib.Core.Path.{_≡_, refl, ap, _∙_}
 use mathlib.Core.Bool.{Bool, true, false, _&&_, cond, false≢true}
 use mathlib.Core.List.{List, [], _∷_}
-use Prim.Native.Nat.{ℕ, zero, suc, _+_, _<_}
+use Prim.Native.Nat.{ℕ, zero, suc, _+_, _≤_, _<_}
 use native.Mathlib.Omega.{arith}
 use lib.Dec.{leb, ltb, eqb}
 use lib.ListN.{length, getD}
-use borrow.Author.Tests.{ltb-true, eqb-true}
+use borrow.Author.Tests.{leb-true, ltb-true, eqb-true}
 use Rattle.shape.specs.Bytes.{every}
 use Rattle.shape.specs.declared.value.Value.{Value}
 use Rattle.shape.specs.declared.value.Value.the-variants.{Of, None}
@@ -18,7 +18,7 @@ use Rattle.directory.specs.declared.Kind.the-variants.{Owner, Direct, In
 use Rattle.directory.specs.declared.Participant.{Participant}
 use Rattle.directory.specs.declared.Found.{Found}
 use Rattle.directory.specs.declared.Found.the-variants.{At, Missing}
-use Rattle.directory.specs.Directory.{codeMost, recordsMost, foundFrom, found, isOwner, ownerFound, names, ascending, isFit}
+use Rattle.directory.specs.Directory.{codeMost, recordsMost, foundFrom, found, isOwner, ownerFound, names, ascending, isFit, isBank, bankFound, accountCode, accountIn, foundAs, ownerUsed}
 use Rattle.directory.specs.Gathering.{nobody}
 
 -- found at the head of a list that starts at place j, or further on
@@ -74,6 +74,18 @@ fit-names dir fit =
     (leb 1 (length dir) && leb (length dir) recordsMost && every (λ (p : Participant). leb (p .code) codeMost) dir && ascending dir)
     (every (λ (p : Participant). names dir (p .kind)) dir) fit
 
+-- a fit directory has no more records than there are places
+pub fit-few : (dir : List Participant) → isFit dir ≡ true → length dir ≤ 16
+unfolding isFit
+fit-few dir fit =
+    leb-true (length dir) 16
+    (and-right (leb 1 (length dir)) (leb (length dir) 16)
+    (and-left (leb 1 (length dir) && leb (length dir) 16) (every (λ (p : Participant). leb (p .code) codeMost) dir)
+    (and-left (leb 1 (length dir) && leb (length dir) 16 && every (λ (p : Participant). leb (p .code) codeMost) dir) (ascending dir)
+    (and-left
+    (leb 1 (length dir) && leb (length dir) 16 && every (λ (p : Participant). leb (p .code) codeMost) dir && ascending dir)
+    (every (λ (p : Participant). names dir (p .kind)) dir) fit))))
+
 -- in a fit directory the code that a record names is an owner's
 pub owner-named : (dir : List Participant) → isFit dir ≡ true → (i : ℕ) → i < length dir
     → (head : ℕ) → namedBy (getD dir i nobody .kind) ≡ Of head → OwnerAt dir head
@@ -81,6 +93,58 @@ owner-named dir fit i h head e =
     owner-there dir head (found dir head) refl
     (named-found dir (getD dir i nobody .kind) head e
     (at-place (λ (p : Participant). names dir (p .kind)) dir nobody (fit-names dir fit) i h))
+
+-- what is tested of every record holds of the one that is found
+found-tested : (f : Participant → Bool) (j : ℕ) (dir : List Participant) (code k : ℕ) (p : Participant) → every f dir ≡ true
+    → foundFrom j dir code ≡ At k p → f p ≡ true
+unfolding foundFrom
+found-tested f j [] code k p t e = let z : _≡_ {A = ℕ} 0 1 = cc in absurd (omega arith)
+found-tested f j (q ∷ dir) code k p t e =
+    by-code (eqb (q .code) code) (found-tested f (suc j) dir code k p (and-right (f q) (every f dir) t)) e
+  where
+    by-code : (same : Bool) → (foundFrom (suc j) dir code ≡ At k p → f p ≡ true)
+        → cond same (At j q) (foundFrom (suc j) dir code) ≡ At k p → f p ≡ true
+    by-code true further h = let record-is : q ≡ p = cc in rw (← record-is) (and-left (f q) (every f dir) t)
+    by-code false further h = further h
+
+-- in a fit directory the record that is found names an owner
+pub found-names : (dir : List Participant) → isFit dir ≡ true → (code k : ℕ) (p : Participant) → found dir code ≡ At k p → names dir (p .kind) ≡ true
+unfolding found
+found-names dir fit code k p e = found-tested (λ (p : Participant). names dir (p .kind)) 0 dir code k p (fit-names dir fit) e
+
+-- an owner uses its own accounts, and a direct branch those of the owner that it names
+bank-uses : (dir : List Participant) (code k : ℕ) (p : Participant) → found dir code ≡ At k p → (kind : Kind) → p .kind ≡ kind
+    → names dir kind ≡ true → isBank kind ≡ true → ownerFound (foundAs dir (accountCode (p .code) kind)) ≡ true
+bank-uses dir code k p f Owner e n b = rw (found-code dir code k p f .0, f, e)
+bank-uses dir code k p f (Direct head) e n b = n
+bank-uses dir code k p f (Indirect head) e n b = absurd (false≢true b)
+bank-uses dir code k p f (Provider bank) e n b = absurd (false≢true b)
+
+-- in a fit directory each owner and each direct branch has an owner whose accounts it uses
+pub owner-used : (dir : List Participant) → isFit dir ≡ true → (code : Value) → bankFound (foundAs dir code) ≡ true → ownerFound (ownerUsed dir code) ≡ true
+unfolding ownerUsed
+owner-used dir fit None b = absurd (false≢true b)
+owner-used dir fit (Of code) b = by-found (found dir code) refl b
+  where
+    by-found : (f : Found) → found dir code ≡ f → bankFound f ≡ true → ownerFound (foundAs dir (accountIn f)) ≡ true
+    by-found (At k p) e t = bank-uses dir code k p e (p .kind) refl (found-names dir fit code k p e) t
+    by-found Missing e t = absurd (false≢true t)
+
+owner-uses : (dir : List Participant) (code k : ℕ) (p : Participant) → found dir code ≡ At k p → (kind : Kind)
+    → isOwner kind ≡ true → foundAs dir (accountCode (p .code) kind) ≡ At k p
+owner-uses dir code k p f Owner o = ap (found dir) (found-code dir code k p f .0) ∙ f
+owner-uses dir code k p f (Direct head) o = absurd (false≢true o)
+owner-uses dir code k p f (Indirect head) o = absurd (false≢true o)
+owner-uses dir code k p f (Provider bank) o = absurd (false≢true o)
+
+-- the owner whose accounts an owner uses is itself
+pub owner-itself : (dir : List Participant) (code : ℕ) → ownerFound (found dir code) ≡ true → ownerUsed dir (Of code) ≡ found dir code
+unfolding ownerUsed
+owner-itself dir code o = by-found (found dir code) refl o
+  where
+    by-found : (f : Found) → found dir code ≡ f → ownerFound f ≡ true → foundAs dir (accountIn f) ≡ f
+    by-found (At k p) e t = owner-uses dir code k p e (p .kind) t
+    by-found Missing e t = absurd (false≢true t)
 
 ascending-rest : (p : Participant) (dir : List Participant) → ascending (p ∷ dir) ≡ true → ascending dir ≡ true
 ascending-rest p [] a = refl

@@ -1,20 +1,22 @@
 -- What is gathered is the directory: all records are counted, sixteen are kept, and the test of fitness on what was gathered is the
--- directory's own, since a directory with more than sixteen records is unfit by its count alone.
+-- directory's own, since a directory with more than sixteen records is unfit by its count alone. So is that of the directory that what was
+-- gathered stands for, which has as many records as were counted.
 -- Assumes nothing.
 use mathlib.Core.Path.{_≡_, refl, sym, _∙_}
-use mathlib.Core.Bool.{Bool, true, false}
+use mathlib.Core.Bool.{Bool, true, false, cond, false≢true}
 use mathlib.Core.List.{List, [], _∷_, _++_, append-nil}
-use Prim.Native.Nat.{suc, _+_, _≤_, _<_}
+use Prim.Native.Nat.{suc, _+_, _-_, _≤_, _<_}
 use native.Mathlib.Omega.{arith}
-use lib.Dec.{leb}
-use lib.ListN.{length, length-set}
+use lib.Dec.{leb, ltb}
+use lib.ListN.{length, set, replicate, length-set, length-append, length-take, length-replicate}
 use lib.Seq.{take-suc-set, append-snoc}
 use borrow.Author.Tests.{lt-ltb, leb-true}
 use Rattle.shape.proofs.Tests.{and-false}
 use Rattle.directory.specs.declared.Participant.{Participant}
 use Rattle.directory.specs.declared.Gathered.{Gathered}
 use Rattle.directory.specs.Directory.{isFit}
-use Rattle.directory.specs.Gathering.{noneGathered, added, gatheredFrom, gathered, recordsIn, fitGathered}
+use Rattle.directory.specs.Gathering.{nobody, noneGathered, added, gatheredFrom, gathered, recordsIn, directoryIn, fitGathered}
+use Rattle.directory.proofs.Finds.{fit-few}
 
 count-from : (g : Gathered) (dir : List Participant) → gatheredFrom g dir .count ≡ g .count + length dir
 unfolding gatheredFrom added
@@ -27,9 +29,13 @@ added-records : (g : Gathered) (p : Participant) → length (g .records) ≡ 16 
 unfolding added
 added-records g p sixteen h = rw (lt-ltb (g .count) 16 h) (take-suc-set (g .records) (g .count) p (omega arith))
 
-added-places : (g : Gathered) (p : Participant) → length (g .records) ≡ 16 → g .count < 16 → length (added g p .records) ≡ 16
+added-places : (g : Gathered) (p : Participant) → length (g .records) ≡ 16 → length (added g p .records) ≡ 16
 unfolding added
-added-places g p sixteen h = rw (lt-ltb (g .count) 16 h) (length-set (g .records) (g .count) p ∙ sixteen)
+added-places g p sixteen = by-room (ltb (g .count) 16)
+  where
+    by-room : (room : Bool) → length (cond room (set (g .records) (g .count) p) (g .records)) ≡ 16
+    by-room true = length-set (g .records) (g .count) p ∙ sixteen
+    by-room false = sixteen
 
 added-count : (g : Gathered) (p : Participant) → added g p .count ≡ suc (g .count)
 unfolding added
@@ -40,8 +46,17 @@ records-from : (g : Gathered) (dir : List Participant) → length (g .records) �
 unfolding gatheredFrom
 records-from g [] sixteen h = sym (append-nil (recordsIn g))
 records-from g (p ∷ dir) sixteen h =
-    records-from (added g p) dir (added-places g p sixteen (omega arith)) (omega (arith, added-count g p))
+    records-from (added g p) dir (added-places g p sixteen) (omega (arith, added-count g p))
     ∙ rw (added-records g p sixteen (omega arith)) (append-snoc (recordsIn g) p dir)
+
+places-from : (g : Gathered) (dir : List Participant) → length (g .records) ≡ 16 → length (gatheredFrom g dir .records) ≡ 16
+unfolding gatheredFrom
+places-from g [] sixteen = sixteen
+places-from g (p ∷ dir) sixteen = places-from (added g p) dir (added-places g p sixteen)
+
+gathered-places : (dir : List Participant) → length (gathered dir .records) ≡ 16
+unfolding gathered
+gathered-places dir = places-from noneGathered dir refl
 
 pub gathered-count : (dir : List Participant) → gathered dir .count ≡ length dir
 unfolding gathered
@@ -58,3 +73,49 @@ fits-is-fit dir = by-count (leb (length dir) 16) refl
     by-count : (few : Bool) → leb (length dir) 16 ≡ few → fitGathered (gathered dir) ≡ isFit dir
     by-count true e = rw (gathered-records dir (leb-true (length dir) 16 e), gathered-count dir)
     by-count false e = rw (gathered-count dir, e, and-false (leb 1 (length dir)) false refl)
+
+-- no more records than places: nothing stands behind them
+directory-few : (g : Gathered) → g .count ≤ 16 → directoryIn g ≡ recordsIn g
+unfolding directoryIn
+directory-few g h =
+    let none : g .count - 16 ≡ 0 = omega arith in
+    rw none (append-nil (recordsIn g))
+
+directory-count : (g : Gathered) → length (g .records) ≡ 16 → length (directoryIn g) ≡ g .count
+unfolding directoryIn
+directory-count g sixteen =
+    length-append (recordsIn g) (replicate (g .count - 16) nobody)
+    ∙ rw (length-take (g .count) (g .records), length-replicate (g .count - 16) nobody) (omega arith)
+
+-- the test on what was gathered is the fitness of the directory that this stands for
+pub directory-fit : (g : Gathered) → length (g .records) ≡ 16 → fitGathered g ≡ isFit (directoryIn g)
+unfolding fitGathered isFit
+directory-fit g sixteen = by-count (leb (g .count) 16) refl
+  where
+    count : length (directoryIn g) ≡ g .count
+    count = directory-count g sixteen
+
+    by-count : (few : Bool) → leb (g .count) 16 ≡ few → fitGathered g ≡ isFit (directoryIn g)
+    by-count true e = rw (count, directory-few g (leb-true (g .count) 16 e))
+    by-count false e = rw (count, e, and-false (leb 1 (g .count)) false refl)
+
+unfit : (g : Gathered) → leb (g .count) 16 ≡ false → fitGathered g ≡ false
+unfolding fitGathered
+unfit g e = rw (e, and-false (leb 1 (g .count)) false refl)
+
+few-gathered : (g : Gathered) → fitGathered g ≡ true → g .count ≤ 16
+few-gathered g fit = by-count (leb (g .count) 16) refl
+  where
+    by-count : (few : Bool) → leb (g .count) 16 ≡ few → g .count ≤ 16
+    by-count true e = leb-true (g .count) 16 e
+    by-count false e = absurd (false≢true (sym (unfit g e) ∙ fit))
+
+pub directory-records : (g : Gathered) → fitGathered g ≡ true → directoryIn g ≡ recordsIn g
+directory-records g fit = directory-few g (few-gathered g fit)
+
+pub directory-gathered : (dir : List Participant) → isFit dir ≡ true → directoryIn (gathered dir) ≡ dir
+directory-gathered dir fit =
+    directory-few (gathered dir) (rw (gathered-count dir) (fit-few dir fit)) ∙ gathered-records dir (fit-few dir fit)
+
+pub directory-fit-gathered : (dir : List Participant) → isFit (directoryIn (gathered dir)) ≡ isFit dir
+directory-fit-gathered dir = sym (directory-fit (gathered dir) (gathered-places dir)) ∙ fits-is-fit dir

@@ -25,6 +25,22 @@ use Rattle.directory.proofs.place_in.Kinds as place-in-kinds
 use Rattle.directory.proofs.place_in.Reads as place-in-reads
 use Rattle.directory.proofs.account_in.Kinds as account-in-kinds
 use Rattle.directory.proofs.account_in.Reads as account-in-reads
+use Rattle.directory.proofs.find_in.Kinds as find-in-kinds
+use Rattle.directory.proofs.find_in.Reads as find-in-reads
+use Rattle.directory.proofs.find_as.Kinds as find-as-kinds
+use Rattle.directory.proofs.find_as.Reads as find-as-reads
+use Rattle.directory.proofs.is_owner_found.Kinds as is-owner-found-kinds
+use Rattle.directory.proofs.is_owner_found.Reads as is-owner-found-reads
+use Rattle.directory.proofs.is_listed.Kinds as is-listed-kinds
+use Rattle.directory.proofs.is_listed.Reads as is-listed-reads
+use Rattle.directory.proofs.is_instant.Kinds as is-instant-kinds
+use Rattle.directory.proofs.is_instant.Reads as is-instant-reads
+use Rattle.directory.proofs.head_in.Kinds as head-in-kinds
+use Rattle.directory.proofs.head_in.Reads as head-in-reads
+use Rattle.directory.proofs.bank_in.Kinds as bank-in-kinds
+use Rattle.directory.proofs.bank_in.Reads as bank-in-reads
+use Rattle.directory.proofs.is_bank_found.Kinds as is-bank-found-kinds
+use Rattle.directory.proofs.is_bank_found.Reads as is-bank-found-reads
 
 pub under-sep : Settled _ under-sep-kinds.ps under-sep-kinds.r under-sep-reads.Post
 under-sep κs a x y e f = by-equation
@@ -49,6 +65,30 @@ in-sep κs a x y e f = by-equation
 
 pub account-code : Settled _ account-code-kinds.ps account-code-kinds.r account-code-reads.Post
 account-code κs a x y e f = by-equation
+
+pub find-in : Settled _ find-in-kinds.ps find-in-kinds.r find-in-reads.Post
+find-in κs a x y e f = by-equation
+
+pub find-as : Settled _ find-as-kinds.ps find-as-kinds.r find-as-reads.Post
+find-as κs a x y e f = by-equation
+
+pub is-owner-found : Settled _ is-owner-found-kinds.ps is-owner-found-kinds.r is-owner-found-reads.Post
+is-owner-found κs a x y e f = by-equation
+
+pub is-listed : Settled _ is-listed-kinds.ps is-listed-kinds.r is-listed-reads.Post
+is-listed κs a x y e f = by-equation
+
+pub is-instant : Settled _ is-instant-kinds.ps is-instant-kinds.r is-instant-reads.Post
+is-instant κs a x y e f = by-equation
+
+pub head-in : Settled _ head-in-kinds.ps head-in-kinds.r head-in-reads.Post
+head-in κs a x y e f = by-equation
+
+pub bank-in : Settled _ bank-in-kinds.ps bank-in-kinds.r bank-in-reads.Post
+bank-in κs a x y e f = by-equation
+
+pub is-bank-found : Settled _ is-bank-found-kinds.ps is-bank-found-kinds.r is-bank-found-reads.Post
+is-bank-found κs a x y e f = by-equation
 
 -- of the two that go through the lent list, over the definition that the contract cites
 pub gather : (dir : List Participant) (x y : Gathered) → x ≡ gathered dir → y ≡ gathered dir → x ≡ y

@@ -14,7 +14,8 @@ use Rattle.shape.specs.Bytes.{every}
 use Rattle.shape.proofs.Tests.{and-left, and-right}
 use Rattle.directory.specs.declared.Participant.{Participant}
 use Rattle.directory.specs.declared.Gathered.{Gathered}
-use Rattle.directory.specs.Directory.{foundFrom, isOwner, ownerFound, ascending}
+use Rattle.directory.specs.declared.Found.the-variants.{At, Missing}
+use Rattle.directory.specs.Directory.{foundFrom, ascending}
 use Rattle.directory.specs.Gathering.{recordsIn}
 
 -- the test of the loops: place i has a record
@@ -65,19 +66,19 @@ module _ (g : Gathered) (sixteen : length (g .records) ≡ 16) where
       every-end t = rw (end t)
 
     module _ (code : ℕ) where
-      pub owner-hit : (d : Participant) → goes g i ≡ true → eqb (getD (g .records) i d .code) code ≡ true
-          → ownerFound (foundFrom i (drop i (recordsIn g)) code) ≡ isOwner (getD (g .records) i d .kind)
+      pub found-hit : (d : Participant) → goes g i ≡ true → eqb (getD (g .records) i d .code) code ≡ true
+          → foundFrom i (drop i (recordsIn g)) code ≡ At i (getD (g .records) i d)
       unfolding foundFrom
-      owner-hit d t e = rw (turn d t, e)
+      found-hit d t e = rw (turn d t, e)
 
-      pub owner-miss : (d : Participant) → goes g i ≡ true → eqb (getD (g .records) i d .code) code ≡ false
-          → ownerFound (foundFrom i (drop i (recordsIn g)) code) ≡ ownerFound (foundFrom (i + 1) (drop (i + 1) (recordsIn g)) code)
+      pub found-miss : (d : Participant) → goes g i ≡ true → eqb (getD (g .records) i d .code) code ≡ false
+          → foundFrom i (drop i (recordsIn g)) code ≡ foundFrom (i + 1) (drop (i + 1) (recordsIn g)) code
       unfolding foundFrom
-      owner-miss d t e = rw (turn d t, e, add-one i)
+      found-miss d t e = rw (turn d t, e, add-one i)
 
-      pub owner-end : goes g i ≡ false → ownerFound (foundFrom i (drop i (recordsIn g)) code) ≡ false
+      pub found-end : goes g i ≡ false → foundFrom i (drop i (recordsIn g)) code ≡ Missing
       unfolding foundFrom
-      owner-end t = rw (end t)
+      found-end t = rw (end t)
 
   -- the record at i, and the one before it at k
   module _ (k i : ℕ) (e : i ≡ k + 1) where

@@ -60,6 +60,15 @@ isFit dir =
     && ascending dir
     && every (λ (p : Participant). names dir (p .kind)) dir
 
+-- listed at all; listed and instant
+abbrev pub isListed : Found → Bool
+isListed (At place p) = true
+isListed Missing = false
+
+abbrev pub isInstant : Found → Bool
+isInstant (At place p) = p .instant
+isInstant Missing = false
+
 -- `SEP` lists owners and branches, `ASP` providers
 abbrev pub inSep : Kind → Bool
 inSep Owner = true
@@ -83,6 +92,39 @@ abbrev pub underAsp : Found → Bool
 underAsp (At place p) = not (inSep (p .kind))
 underAsp Missing = false
 
+-- the head of what is listed as an indirect branch
+abbrev pub headNamed : Kind → Value
+headNamed Owner = None
+headNamed (Direct head) = None
+headNamed (Indirect head) = Of head
+headNamed (Provider bank) = None
+
+abbrev pub headIn : Found → Value
+headIn (At place p) = headNamed (p .kind)
+headIn Missing = None
+
+-- the bank that serves what is listed as a provider
+abbrev pub bankNamed : Kind → Value
+bankNamed Owner = None
+bankNamed (Direct head) = None
+bankNamed (Indirect head) = None
+bankNamed (Provider bank) = Of bank
+
+abbrev pub bankIn : Found → Value
+bankIn (At place p) = bankNamed (p .kind)
+bankIn Missing = None
+
+-- listed as an owner or a direct branch, which are those that use accounts
+abbrev pub isBank : Kind → Bool
+isBank Owner = true
+isBank (Direct head) = true
+isBank (Indirect head) = false
+isBank (Provider bank) = false
+
+abbrev pub bankFound : Found → Bool
+bankFound (At place p) = isBank (p .kind)
+bankFound Missing = false
+
 -- the place of a code
 abbrev pub placeIn : Found → Value
 placeIn (At place p) = Of place
@@ -93,10 +135,15 @@ abbrev pub accountIn : Found → Value
 accountIn (At place p) = accountCode (p .code) (p .kind)
 accountIn Missing = None
 
-abbrev pub placeNamed : List Participant → Value → Value
-placeNamed dir (Of code) = placeIn (found dir code)
-placeNamed dir None = None
+-- the record of a code that may not be given
+abbrev pub foundAs : List Participant → Value → Found
+foundAs dir (Of code) = found dir code
+foundAs dir None = Missing
 
--- the account place of a code: an owner's own, a direct branch's head's, else none
+-- the record of the owner whose accounts a code uses: an owner's own, a direct branch's head's, else none
+unfoldable pub ownerUsed : List Participant → Value → Found
+ownerUsed dir code = foundAs dir (accountIn (foundAs dir code))
+
+-- the account place of a code
 unfoldable pub accountPlace : List Participant → ℕ → Value
-accountPlace dir code = placeNamed dir (accountIn (found dir code))
+accountPlace dir code = placeIn (ownerUsed dir (Of code))

@@ -1,7 +1,7 @@
 -- The records of a directory gathered by value: the first sixteen, in places that are otherwise empty, and how many there are in all.
 use mathlib.Core.Bool.{Bool, false, _&&_, cond}
-use mathlib.Core.List.{List, [], _∷_}
-use Prim.Native.Nat.{ℕ, suc}
+use mathlib.Core.List.{List, [], _∷_, _++_}
+use Prim.Native.Nat.{ℕ, suc, _-_}
 use lib.Dec.{leb, ltb, eqb}
 use lib.ListN.{set, replicate, take}
 use Rattle.shape.specs.Bytes.{every}
@@ -32,6 +32,10 @@ gathered dir = gatheredFrom noneGathered dir
 -- the records that were gathered, of a directory that has no more than there are places
 abbrev pub recordsIn : Gathered → List Participant
 recordsIn g = take (g .count) (g .records)
+
+-- the directory that was gathered: of records past the places it is known only how many they are, and with these it is not fit
+unfoldable pub directoryIn : Gathered → List Participant
+directoryIn g = recordsIn g ++ replicate (g .count - recordsMost) nobody
 
 -- the directory that was gathered is fit. That this is the directory's own fitness is proved in `proofs/Gathers.antt`
 unfoldable pub fitGathered : Gathered → Bool

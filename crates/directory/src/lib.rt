@@ -8,7 +8,7 @@ ghost use Prim.Native.Nat.{_<_, _^_};
 ghost use lib.Dec.{leb};
 ghost use Rattle.shape.specs.Bytes.{every};
 ghost use Rattle.directory.specs.declared.Participant.{Participant};
-ghost use Rattle.directory.specs.Directory.{codeMost, found, isOwner, ownerFound, names, ascending, inSep, accountCode, underSep, underAsp, placeIn, accountIn};
+ghost use Rattle.directory.specs.Directory.{codeMost, found, isOwner, ownerFound, names, ascending, isListed, isInstant, inSep, accountCode, underSep, underAsp, headNamed, headIn, bankNamed, bankIn, isBank, bankFound, placeIn, accountIn, foundAs};
 ghost use Rattle.directory.specs.Gathering.{nobody, noneGathered, added, gathered, looked, recordsIn, fitGathered};
 
 // The highest code.
@@ -127,21 +127,50 @@ pub fn is_owner(kind: Kind) -> bool
     }
 }
 
-// Whether a code is that of an owner among the gathered records.
-fn has_owner(g: Gathered, code: u64) -> bool
-    ensures { λ r. ⌜ r ≡ ownerFound (found (recordsIn g) code) ⌝ }
+// The record of a code among the gathered ones.
+pub fn find_in(g: Gathered, code: u64) -> Found
+    ensures { λ r. ⌜ r ≡ found (recordsIn g) code ⌝ }
 {
     let records = g.records;
     let mut i = 0;
     while (i < g.count) & (i < 16) {
         let p = records[i];
         if p.code == code {
-            let kind = p.kind;
-            return is_owner(kind);
+            return Found::At(i, p);
         }
         i += 1;
     }
-    false
+    Found::Missing
+}
+
+// The same of a code that may not be given.
+pub fn find_as(g: Gathered, code: Value) -> Found
+    ensures { λ r. ⌜ r ≡ foundAs (recordsIn g) code ⌝ }
+{
+    match code {
+        Value::Of(n) => find_in(g, n),
+        Value::None => Found::Missing,
+    }
+}
+
+// Whether what was found of a code is an owner.
+pub fn is_owner_found(f: Found) -> bool
+    ensures { λ r. ⌜ r ≡ ownerFound f ⌝ }
+{
+    match f {
+        Found::At(_place, p) => {
+            let kind = p.kind;
+            is_owner(kind)
+        }
+        Found::Missing => false,
+    }
+}
+
+// Whether a code is that of an owner among the gathered records.
+fn has_owner(g: Gathered, code: u64) -> bool
+    ensures { λ r. ⌜ r ≡ ownerFound (found (recordsIn g) code) ⌝ }
+{
+    is_owner_found(find_in(g, code))
 }
 
 // Whether a participant is an owner or names one among the gathered records.
@@ -238,6 +267,26 @@ pub fn account_code(p: Participant) -> Value
     }
 }
 
+// Whether what was found of a code is listed at all.
+pub fn is_listed(f: Found) -> bool
+    ensures { λ r. ⌜ r ≡ isListed f ⌝ }
+{
+    match f {
+        Found::At(_place, _p) => true,
+        Found::Missing => false,
+    }
+}
+
+// Whether it is listed and instant.
+pub fn is_instant(f: Found) -> bool
+    ensures { λ r. ⌜ r ≡ isInstant f ⌝ }
+{
+    match f {
+        Found::At(_place, p) => p.instant,
+        Found::Missing => false,
+    }
+}
+
 // Whether what was found of a code is listed under `SEP`.
 pub fn under_sep(f: Found) -> bool
     ensures { λ r. ⌜ r ≡ underSep f ⌝ }
@@ -259,6 +308,78 @@ pub fn under_asp(f: Found) -> bool
         Found::At(_place, p) => {
             let kind = p.kind;
             !in_sep(kind)
+        }
+        Found::Missing => false,
+    }
+}
+
+fn head_named(kind: Kind) -> Value
+    ensures { λ r. ⌜ r ≡ headNamed kind ⌝ }
+{
+    match kind {
+        Kind::Owner => Value::None,
+        Kind::Direct(_head) => Value::None,
+        Kind::Indirect(head) => Value::Of(head),
+        Kind::Provider(_bank) => Value::None,
+    }
+}
+
+// The head of what is listed as an indirect branch.
+pub fn head_in(f: Found) -> Value
+    ensures { λ r. ⌜ r ≡ headIn f ⌝ }
+{
+    match f {
+        Found::At(_place, p) => {
+            let kind = p.kind;
+            head_named(kind)
+        }
+        Found::Missing => Value::None,
+    }
+}
+
+fn bank_named(kind: Kind) -> Value
+    ensures { λ r. ⌜ r ≡ bankNamed kind ⌝ }
+{
+    match kind {
+        Kind::Owner => Value::None,
+        Kind::Direct(_head) => Value::None,
+        Kind::Indirect(_head) => Value::None,
+        Kind::Provider(bank) => Value::Of(bank),
+    }
+}
+
+// The bank that serves what is listed as a provider.
+pub fn bank_in(f: Found) -> Value
+    ensures { λ r. ⌜ r ≡ bankIn f ⌝ }
+{
+    match f {
+        Found::At(_place, p) => {
+            let kind = p.kind;
+            bank_named(kind)
+        }
+        Found::Missing => Value::None,
+    }
+}
+
+fn is_bank(kind: Kind) -> bool
+    ensures { λ r. ⌜ r ≡ isBank kind ⌝ }
+{
+    match kind {
+        Kind::Owner => true,
+        Kind::Direct(_head) => true,
+        Kind::Indirect(_head) => false,
+        Kind::Provider(_bank) => false,
+    }
+}
+
+// Whether it is listed as an owner or a direct branch.
+pub fn is_bank_found(f: Found) -> bool
+    ensures { λ r. ⌜ r ≡ bankFound f ⌝ }
+{
+    match f {
+        Found::At(_place, p) => {
+            let kind = p.kind;
+            is_bank(kind)
         }
         Found::Missing => false,
     }

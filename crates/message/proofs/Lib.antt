@@ -10,6 +10,7 @@ pub mod Lowest
 pub mod OfRows
 pub mod Parted
 pub mod Settled
+pub mod Shaped
 pub mod Stands
 pub mod Tables
 pub mod Turns

@@ -19,6 +19,7 @@ pub mod Rooms
 pub mod Settled
 pub mod StepLaws
 pub mod Sums
+pub mod Traces
 pub mod Turns
 pub mod Undone
 pub mod Zeros

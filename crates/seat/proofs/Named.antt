@@ -1,12 +1,13 @@
 -- An account that is named is one of the seat's 32, and a set of it is a step that fits.
 -- Assumes nothing.
 use mathlib.Core.Path.{_≡_, refl, sym, subst}
-use mathlib.Core.Bool.{true, _||_}
+use mathlib.Core.Bool.{Bool, true, false, _||_, cond}
 use Prim.Native.Nat.{ℕ, _+_, _-_, _*_, _≤_, _<_}
 use native.Mathlib.Omega.{arith}
 use lib.Dec.{eqb}
 use borrow.Author.Tests.{ltb-true, lt-ltb, eqb-true}
 use Rattle.shape.specs.Stored.{sameIdentifier}
+use Rattle.shape.specs.declared.value.Value.the-variants.{Of, None}
 use Rattle.shape.proofs.Tests.{and-right, or-cases}
 use Rattle.directory.specs.declared.Participant.{Participant}
 use Rattle.directory.specs.declared.Found.{Found}
@@ -15,7 +16,7 @@ use Rattle.directory.specs.Directory.{ownerFound}
 use Rattle.layout.specs.declared.rows.Settings.{Settings}
 use Rattle.layout.specs.Seat.{places, accounts}
 use Rattle.seat.specs.Steps.{settingsFit, noMessage, noMovement, setFits, stepFits}
-use Rattle.seat.specs.Calls.{accountNamed, accountNumber, placeFits, setStep}
+use Rattle.seat.specs.Calls.{accountNamed, accountNumber, accountFound, placeFits, setStep}
 
 pub place-low : (f : Found) (place : ℕ) (p : Participant) → f ≡ At place p → placeFits f ≡ true → place < 16
 place-low f place p e h = ltb-true place places (subst (λ (x : Found). placeFits x ≡ true) e h)
@@ -45,6 +46,17 @@ module _ (owner : Found) (number : ℕ) (named : accountNamed owner number ≡ t
           let low : place < 16 = ltb-true place places t in
           omega (arith, low, number-low)
       go Missing t = omega arith
+
+-- and so is one that is found
+pub account-found-low : (owner : Found) (number i : ℕ) → placeFits owner ≡ true → accountFound owner number ≡ Of i → i < accounts
+unfolding accountFound
+account-found-low owner number i p e = go (accountNamed owner number) refl e
+  where
+    go : (t : Bool) → accountNamed owner number ≡ t → cond t (Of (accountNumber owner number)) None ≡ Of i → i < accounts
+    go true named f =
+        let same : accountNumber owner number ≡ i = cc in
+        subst (λ (j : ℕ). j < accounts) same (account-low owner number named p)
+    go false named f = let z : _≡_ {A = ℕ} 0 1 = cc in absurd (omega arith)
 
 -- a set of an account from settings that fit to settings that fit
 pub set-step-fits : (account : ℕ) (old given : Settings) → account < accounts → settingsFit old ≡ true → settingsFit given ≡ true

@@ -1,17 +1,21 @@
--- The seats of a room, one after the other: the room is fit as far as the seats that are left are.
+-- The seats of a room, one after the other: the room is fit as far as the seats that are left are. So each seat of a fit room fits, and with a
+-- fit seat put in place of another the room stays fit.
 -- Assumes nothing.
-use mathlib.Core.Path.{_≡_, refl, sym, _∙_}
+use mathlib.Core.Path.{_≡_, refl, sym, ap, subst, _∙_}
 use mathlib.Core.Bool.{Bool, true, false, _&&_, cond}
 use mathlib.Core.List.{List}
-use Prim.Native.Nat.{ℕ, suc, _+_, _-_, _*_, _<_, _≤_}
+use Prim.Native.Nat.{ℕ, zero, suc, _+_, _-_, _*_, _<_, _≤_}
 use native.Mathlib.Omega.{arith}
 use native.Mathlib.Numerals.{add-one}
 use lib.Dec.{eqb}
 use lib.ListN.{length, take, drop}
-use borrow.Author.Tests.{eq-eqb, ne-eqb}
-use Rattle.layout.specs.Seat.{seatLong, roomLong, seatOf}
+use borrow.Author.Tests.{eq-eqb, ne-eqb, eqb-true, eqb-false}
+use Rattle.shape.proofs.Tests.{and-left, and-right}
+use Rattle.layout.specs.Seat.{seatLong, roomLong, seatOf, withSeat}
 use Rattle.layout.proofs.Parts.{lent}
+use Rattle.layout.proofs.Rooms.{with-seat-length, seat-got, seat-other}
 use Rattle.seat.specs.Fit.{seatFits, seatsFit, roomFits}
+use Rattle.seat.proofs.Kept.{fit-long}
 
 pub wrong-length : (r : List ℕ) → (length r ≡ roomLong → ⊥) → false ≡ roomFits r
 unfolding roomFits
@@ -39,3 +43,38 @@ seats-end r k h = let none : 8 - k ≡ 0 = omega arith in rw none
 pub seat-lent : (r : List ℕ) (k : ℕ) → take ((923 * k + 923) - 923 * k) (drop (923 * k) r) ≡ seatOf r k
 unfolding seatOf
 seat-lent r k = lent r (923 * k) 923
+
+-- n seats from the j-th on: each of them fits, and where each fits all do
+seat-among : (r : List ℕ) (j n d k : ℕ) → k ≡ j + d → d < n → seatsFit r j n ≡ true → seatFits (seatOf r k) ≡ true
+seat-among r j zero d k p h e = absurd (omega arith)
+seat-among r j (suc n) zero k p h e =
+    let here : j ≡ k = omega arith in
+    subst (λ (m : ℕ). seatFits (seatOf r m) ≡ true) here (and-left (seatFits (seatOf r j)) (seatsFit r (suc j) n) e)
+seat-among r j (suc n) (suc d) k p h e =
+    seat-among r (suc j) n d k (omega arith) (omega arith) (and-right (seatFits (seatOf r j)) (seatsFit r (suc j) n) e)
+
+seats-all : (r : List ℕ) (j n : ℕ) → ((k : ℕ) → k < j + n → seatFits (seatOf r k) ≡ true) → seatsFit r j n ≡ true
+seats-all r j zero each = refl
+seats-all r j (suc n) each =
+    rw (each j (omega arith)) (seats-all r (suc j) n (λ (k : ℕ) (h : k < suc j + n). each k (omega arith)))
+
+-- what a fit room is
+module _ (r : List ℕ) (e : roomFits r ≡ true) where
+  pub room-long : length r ≡ roomLong
+  unfolding roomFits
+  room-long = eqb-true (length r) roomLong (and-left (eqb (length r) roomLong) (seatsFit r 0 8) e)
+
+  pub room-seat : (k : ℕ) → k < 8 → seatFits (seatOf r k) ≡ true
+  room-seat k h = seat-among r 0 8 k k (omega arith) h (sym (seats-begin r room-long) ∙ e)
+
+-- a fit seat put into a fit room
+pub room-keeps : (r s : List ℕ) → roomFits r ≡ true → (k : ℕ) → k < 8 → seatFits s ≡ true → roomFits (withSeat r k s) ≡ true
+room-keeps r s e k b f =
+    seats-begin (withSeat r k s) (with-seat-length r k s (room-long r e) b (fit-long s f))
+    ∙ seats-all (withSeat r k s) 0 8 (λ (m : ℕ) (h : m < 0 + 8). go m (omega arith) (eqb k m) refl)
+  where
+    go : (m : ℕ) → m < 8 → (t : Bool) → eqb k m ≡ t → seatFits (seatOf (withSeat r k s) m) ≡ true
+    go m h true q =
+        subst (λ (j : ℕ). seatFits (seatOf (withSeat r k s) j) ≡ true) (eqb-true k m q)
+        (ap seatFits (seat-got r k s (room-long r e) b (fit-long s f)) ∙ f)
+    go m h false q = ap seatFits (seat-other r k m s (room-long r e) h (fit-long s f) (eqb-false k m q)) ∙ room-seat r e m h

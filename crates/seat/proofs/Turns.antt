@@ -22,7 +22,7 @@ use Rattle.seat.proofs.Grown.{Grown, grown-more}
 use Rattle.seat.proofs.Opened.{opened-head, opened-grown}
 
 -- the steps that are left: the k-th and those behind it
-steps-left : (s : List ℕ) (k n : ℕ) → k < n → stepsFrom s k (n - k) ≡ stepOf s k ∷ stepsFrom s (k + 1) (n - (k + 1))
+pub steps-left : (s : List ℕ) (k n : ℕ) → k < n → stepsFrom s k (n - k) ≡ stepOf s k ∷ stepsFrom s (k + 1) (n - (k + 1))
 unfolding stepsFrom
 steps-left s k n h =
     let one : n - k ≡ suc (n - (k + 1)) = omega arith in

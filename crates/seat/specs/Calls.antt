@@ -5,6 +5,8 @@ use mathlib.Core.Bool.{Bool, true, false, not, _&&_, _||_, cond}
 use mathlib.Core.List.{List, [], _∷_}
 use Prim.Native.Nat.{ℕ, suc, _+_, _-_, _*_}
 use lib.Dec.{leb, ltb, eqb}
+use Rattle.shape.specs.declared.value.Value.{Value}
+use Rattle.shape.specs.declared.value.Value.the-variants.{Of, None}
 use Rattle.slip.specs.Meaning.{openings, steps}
 use Rattle.directory.specs.declared.Participant.{Participant}
 use Rattle.directory.specs.declared.Found.{Found}
@@ -17,7 +19,7 @@ use Rattle.layout.specs.Seat.{places, headOf, accountOf}
 use Rattle.seat.specs.declared.calls.Answer.{Answer}
 use Rattle.seat.specs.declared.calls.Answer.the-variants.{Done, NoTicket, AlreadyOpen, NoOpeningLeft, BadNumber, JournalFull, NothingToTakeBack}
 use Rattle.seat.specs.declared.calls.Limit.{Limit}
-use Rattle.seat.specs.declared.calls.Limit.the-variants.{None, Of}
+use Rattle.seat.specs.declared.calls.Limit.the-variants as limit
 use Rattle.seat.specs.declared.calls.Wish.{Wish}
 use Rattle.seat.specs.Steps.{setKind, sumMost, settingsFit, noSettings, noIdentifier}
 use Rattle.seat.specs.Working.{stepped, backed}
@@ -94,6 +96,10 @@ abbrev pub accountNumber : Found → ℕ → ℕ
 accountNumber (At place p) number = 2 * place + (number - 1)
 accountNumber Missing number = 0
 
+-- the account that an owner and 1 or 2 name, or none
+unfoldable pub accountFound : Found → ℕ → Value
+accountFound owner number = cond (accountNamed owner number) (Of (accountNumber owner number)) None
+
 -- a place that a seat has
 abbrev pub placeFits : Found → Bool
 placeFits (At place p) = ltb place places
@@ -104,8 +110,8 @@ abbrev pub blockNumber : Bool → ℕ
 blockNumber on = cond on 1 0
 
 unfoldable pub limitNumber : Limit → ℕ
-limitNumber None = 0
-limitNumber (Of n) = cond (leb n sumMost) (n + 1) (sumMost + 2)
+limitNumber limit.None = 0
+limitNumber (limit.Of n) = cond (leb n sumMost) (n + 1) (sumMost + 2)
 
 unfoldable pub settingsOf : Wish → Settings
 settingsOf w = record { out = blockNumber (w .out); into = blockNumber (w .into); ltk = w .ltk; lpo = limitNumber (w .lpo) }

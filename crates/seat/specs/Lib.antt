@@ -4,3 +4,4 @@ pub mod Fit
 pub mod Low
 pub mod Calls
 pub mod Limits
+pub mod Journal

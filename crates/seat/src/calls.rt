@@ -20,6 +20,7 @@ use layout::rows::Head;
 use layout::rows::Settings;
 use layout::rows::Step;
 use shape::stored::Uetr;
+use shape::value::Value;
 ghost use mathlib.Core.Path.{_≡_};
 ghost use mathlib.Core.Bool.{true};
 ghost use Prim.Native.Nat.{_≤_};
@@ -28,7 +29,7 @@ ghost use Rattle.directory.specs.Directory.{recordsMost};
 ghost use Rattle.directory.specs.Gathering.{recordsIn};
 ghost use Rattle.layout.specs.Seat.{seatLong};
 ghost use Rattle.seat.specs.Fit.{seatFits};
-ghost use Rattle.seat.specs.Calls.{noTicket, pairGood, sumsGood, openAnswer, openAfter, closeAnswer, closeAfter, accountNamed, accountNumber, placeFits, blockNumber, limitNumber, settingsOf, setStep, setAnswer, setAfter, backAnswer, backAfter, noAccount, readAnswer, readValue};
+ghost use Rattle.seat.specs.Calls.{noTicket, pairGood, sumsGood, openAnswer, openAfter, closeAnswer, closeAfter, accountNamed, accountNumber, accountFound, placeFits, blockNumber, limitNumber, settingsOf, setStep, setAnswer, setAfter, backAnswer, backAfter, noAccount, readAnswer, readValue};
 
 // How a call of a seat ends.
 pub enum Answer {
@@ -42,7 +43,7 @@ pub enum Answer {
 }
 
 // Whether a ticket's opening number is not that of the seat as it is open.
-fn no_ticket(s: &[u64], opening: u64) -> bool
+pub fn no_ticket(s: &[u64], opening: u64) -> bool
     requires { ⌜ length (now s) ≡ seatLong ⌝ }
     ensures { λ r. ⌜ r ≡ noTicket opening (now (s .entry)) ⌝ }
 {
@@ -78,7 +79,7 @@ fn sums_good(g: Gathered, sums: &[u64]) -> bool
 }
 
 // Makes every number zero.
-fn clear(s: &mut [u64])
+pub fn clear(s: &mut [u64])
     ensures { λ _. ⌜ now (s .exit) ≡ replicate (length (now (s .entry))) 0 ⌝ }
 {
     let mut i = 0;
@@ -195,6 +196,17 @@ fn account_number(owner: Found, number: u64) -> usize
         }
         Found::Missing => 0,
     }
+}
+
+// The account of an owner by its number in the seat, where there is one.
+pub fn account_found(owner: Found, number: u64) -> Value
+    requires { ⌜ placeFits owner ≡ true ⌝ }
+    ensures { λ r. ⌜ r ≡ accountFound owner number ⌝ }
+{
+    if !is_account(owner, number) {
+        return Value::None;
+    }
+    Value::Of(account_number(owner, number) as u64)
 }
 
 fn set_step(account: u64, old: Settings, given: Settings) -> Step

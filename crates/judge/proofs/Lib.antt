@@ -1,0 +1,9 @@
+pub mod Holders
+pub mod Movements
+pub mod Orders
+pub mod Passed
+pub mod Places
+pub mod Possible
+pub mod Says
+pub mod Settled
+pub mod Verdicts

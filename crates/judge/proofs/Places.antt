@@ -1,0 +1,69 @@
+-- A directory of at most 16 records has each of them at a place that a seat has, so whatever is found in it fits; and what was gathered of a
+-- fit directory is at most 16 records, since no more were counted.
+-- Assumes nothing.
+use mathlib.Core.Path.{_≡_, refl}
+use mathlib.Core.Bool.{true, _&&_}
+use mathlib.Core.List.{List}
+use Prim.Native.Nat.{ℕ, _≤_, _<_}
+use native.Mathlib.Omega.{arith}
+use lib.Dec.{leb}
+use lib.ListN.{length, length-take}
+use borrow.Author.Tests.{leb-true, lt-ltb}
+use Rattle.shape.specs.Bytes.{every}
+use Rattle.shape.specs.declared.value.Value.{Value}
+use Rattle.shape.specs.declared.value.Value.the-variants.{Of, None}
+use Rattle.shape.proofs.Tests.{and-left, and-right}
+use Rattle.table.specs.declared.Kind.{Kind}
+use Rattle.table.specs.declared.Kind.the-variants.{Pacs008, Camt050, Pacs028}
+use Rattle.directory.specs.declared.Participant.{Participant}
+use Rattle.directory.specs.declared.Gathered.{Gathered}
+use Rattle.directory.specs.declared.Found.{Found}
+use Rattle.directory.specs.declared.Found.the-variants.{At, Missing}
+use Rattle.directory.specs.Directory.{codeMost, names, ascending, found, foundAs, accountIn, ownerUsed}
+use Rattle.directory.specs.Gathering.{recordsIn, fitGathered}
+use Rattle.directory.proofs.Finds.{found-code}
+use Rattle.message.specs.declared.Message.{Message}
+use Rattle.seat.specs.Calls.{placeFits}
+use Rattle.judge.specs.Case.{debitOwner, creditOwner}
+
+pub found-fits : (dir : List Participant) (code : ℕ) → length dir ≤ 16 → placeFits (found dir code) ≡ true
+found-fits dir code few = by-place (found dir code) refl
+  where
+    by-place : (f : Found) → found dir code ≡ f → placeFits f ≡ true
+    by-place (At k p) e = let within : k < length dir = found-code dir code k p e .1 in lt-ltb k 16 (omega arith)
+    by-place Missing e = refl
+
+pub found-as-fits : (dir : List Participant) (code : Value) → length dir ≤ 16 → placeFits (foundAs dir code) ≡ true
+found-as-fits dir (Of code) few = found-fits dir code few
+found-as-fits dir None few = refl
+
+pub owner-fits : (dir : List Participant) (code : Value) → length dir ≤ 16 → placeFits (ownerUsed dir code) ≡ true
+unfolding ownerUsed
+owner-fits dir code few = found-as-fits dir (accountIn (foundAs dir code)) few
+
+pub debit-owner-fits : (dir : List Participant) (m : Message) (kind : Kind) → length dir ≤ 16 → placeFits (debitOwner dir m kind) ≡ true
+unfolding debitOwner
+debit-owner-fits dir m Pacs008 few = owner-fits dir (m .instructing) few
+debit-owner-fits dir m Camt050 few = found-fits dir (m .debit .code) few
+debit-owner-fits dir m Pacs028 few = refl
+
+pub credit-owner-fits : (dir : List Participant) (m : Message) (kind : Kind) → length dir ≤ 16 → placeFits (creditOwner dir m kind) ≡ true
+unfolding creditOwner
+credit-owner-fits dir m Pacs008 few = owner-fits dir (m .instructed) few
+credit-owner-fits dir m Camt050 few = found-fits dir (m .credit .code) few
+credit-owner-fits dir m Pacs028 few = refl
+
+-- what was gathered of a fit directory: at most 16 records were counted, and no more are there than were counted
+counted-few : (g : Gathered) → fitGathered g ≡ true → g .count ≤ 16
+unfolding fitGathered
+counted-few g fit =
+    leb-true (g .count) 16
+    (and-right (leb 1 (g .count)) (leb (g .count) 16)
+    (and-left (leb 1 (g .count) && leb (g .count) 16) (every (λ (p : Participant). leb (p .code) codeMost) (recordsIn g))
+    (and-left (leb 1 (g .count) && leb (g .count) 16 && every (λ (p : Participant). leb (p .code) codeMost) (recordsIn g)) (ascending (recordsIn g))
+    (and-left
+    (leb 1 (g .count) && leb (g .count) 16 && every (λ (p : Participant). leb (p .code) codeMost) (recordsIn g) && ascending (recordsIn g))
+    (every (λ (p : Participant). names (recordsIn g) (p .kind)) (recordsIn g)) fit))))
+
+pub records-few : (g : Gathered) → fitGathered g ≡ true → length (recordsIn g) ≤ 16
+records-few g fit = rw (length-take (g .count) (g .records)) (omega (arith, counted-few g fit))

@@ -1,0 +1,66 @@
+-- Each kind's arm is the definition's.
+use mathlib.Core.Path.{_≡_, sym, _∙_}
+use Prim.Native.Nat.{ℕ}
+use denote.Ref.{now}
+use borrow.Author.Needs.{needs}
+use Rattle.table.specs.declared.Kind.{Kind}
+use Rattle.table.specs.declared.Kind.the-variants.{Pacs028}
+use Rattle.seat.specs.declared.journal.Earlier.{Earlier}
+use Rattle.judge.specs.Rows.{askedAfter}
+use Rattle.judge.specs.Verdict.{answered, endOf}
+use Rattle.judge.proofs.outcome.end_of.Statement.{statement}
+use Rattle.judge.proofs.outcome.end_of.Tie as tie
+
+enum-told : tie.Need-enum-told
+enum-told c = search needs
+
+transferred-requires : tie.Need-transferred-requires
+transferred-requires c κs = tt
+
+enum-told-2 : tie.Need-enum-told-2
+enum-told-2 c = search needs
+
+transferred-requires-2 : tie.Need-transferred-requires-2
+transferred-requires-2 c κs = tt
+
+enum-told-3 : tie.Need-enum-told-3
+enum-told-3 c = search needs
+
+asked-after-requires : tie.Need-asked-after-requires
+asked-after-requires c κs = c .before .before .before .before .pre
+
+answered-requires : tie.Need-answered-requires
+answered-requires c κs = tt
+
+returns : tie.Need-returns
+unfolding endOf
+returns c = rw (c .before .enum-told .given .1) (c .transferred .ensures)
+
+returns-2 : tie.Need-returns-2
+unfolding endOf
+returns-2 c = rw (c .before .enum-told2 .given .1) (c .transferred2 .ensures)
+
+-- the kind is written apart from the case, which has it too
+asks : (kind : Kind) (check : ℕ) (x : Earlier) → kind ≡ Pacs028 → endOf kind check x ≡ answered check x
+unfolding endOf
+asks kind check x e = rw e
+
+returns-3 : tie.Need-returns-3
+returns-3 c =
+    (rw (c .before .asked-after .ensures) at (c .answered .ensures))
+    ∙ sym (asks (c .before .before .before .before .before .before .args .c .message .kind) (c .before .before .before .before .before .before .args .check) (askedAfter (c .before .before .before .before .before .before .args .c) (now (c .before .before .before .before .before .before .args .s))) (c .before .before .enum-told3 .given .1))
+
+pub end-of-spec : {M : Type 1} → statement M
+end-of-spec =
+    tie.close
+    (tie.spec
+    enum-told
+    transferred-requires
+    enum-told-2
+    transferred-requires-2
+    enum-told-3
+    asked-after-requires
+    answered-requires
+    returns
+    returns-2
+    returns-3)

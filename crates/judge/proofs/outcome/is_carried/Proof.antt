@@ -1,0 +1,31 @@
+-- Each arm is the definition's; the number of ACCC is 1.
+use borrow.Author.Needs.{needs}
+use Rattle.slip.specs.Meaning.{statusNumber}
+use Rattle.judge.specs.Verdict.{carried}
+use Rattle.judge.proofs.outcome.is_carried.Statement.{statement}
+use Rattle.judge.proofs.outcome.is_carried.Tie as tie
+
+enum-told : tie.Need-enum-told
+enum-told c = search needs
+
+enum-told-2 : tie.Need-enum-told-2
+enum-told-2 c = search needs
+
+enum-told-3 : tie.Need-enum-told-3
+enum-told-3 c = search needs
+
+returns : tie.Need-returns
+unfolding carried statusNumber
+returns c = rw (c .before .enum-told .given .1)
+
+returns-2 : tie.Need-returns-2
+unfolding carried statusNumber
+returns-2 c = rw (c .before .enum-told2 .given .1)
+
+returns-3 : tie.Need-returns-3
+unfolding carried
+returns-3 c = rw (c .enum-told3 .given .1)
+
+pub is-carried-spec : {M : Type 1} → statement M
+is-carried-spec =
+    tie.close (tie.spec enum-told enum-told-2 enum-told-3 returns returns-2 returns-3)

@@ -1,0 +1,4 @@
+pub mod Values
+pub mod Case
+pub mod Rows
+pub mod Verdict

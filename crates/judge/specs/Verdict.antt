@@ -1,0 +1,158 @@
+-- The check by which a message fails, and what becomes of the message: document 01, "The checks", "The slip" and what a step stores.
+use mathlib.Core.Bool.{Bool, false, _&&_, cond}
+use mathlib.Core.List.{List, [], _∷_}
+use Prim.Native.Nat.{ℕ}
+use lib.Dec.{eqb}
+use lib.ListN.{getD}
+use Rattle.shape.specs.declared.value.Value.{Value}
+use Rattle.table.specs.declared.Kind.{Kind}
+use Rattle.table.specs.declared.Kind.the-variants.{Pacs008, Camt050, Pacs028}
+use Rattle.table.specs.Checks.{orderOf}
+use Rattle.slip.specs.declared.Status.the-variants.{Pdng, Accc, Rjct}
+use Rattle.slip.specs.Meaning.{kindNumber, statusNumber}
+use Rattle.layout.specs.declared.rows.Step.{Step}
+use Rattle.seat.specs.declared.journal.Earlier.{Earlier}
+use Rattle.seat.specs.declared.journal.Earlier.the-variants.{Of, None}
+use Rattle.seat.specs.Steps.{noSettings}
+use Rattle.judge.specs.declared.case.Case.{Case}
+use Rattle.judge.specs.declared.outcome.Outcome.{Outcome}
+use Rattle.judge.specs.Values.{orZero}
+use Rattle.judge.specs.Rows.{
+  senderUnlisted,
+  senderIndirect,
+  senderNotInstant,
+  senderNoOwner,
+  identifierBad,
+  identifierRepeated,
+  createdElsewhen,
+  notFromSender,
+  originalBad,
+  originalUnknown,
+  originalDiffers,
+  creditorAnothers,
+  debtorAnothers,
+  currenciesDiffer,
+  digitsWrong,
+  amountForeign,
+  uetrRepeated,
+  creditorNotHryvnia,
+  debtorNotHryvnia,
+  debitBlocked,
+  creditBlocked,
+  moneyShort,
+  limitPassed,
+  limitZero,
+  debtorUnlisted,
+  creditorNoProvider,
+  instructedNoBank,
+  creditorNotInstant,
+  creditorNotServed,
+  debtorElsewhere,
+  creditorElsewhere,
+  previousNotServing,
+  instructingNotServing,
+  ibanWrong,
+  askedAfter,
+}
+
+-- all rows, by the numbers of their checks; no check has the number 0
+unfoldable pub rowsOf : Case → List ℕ → List Bool
+rowsOf c s =
+    false
+    ∷ senderUnlisted c
+    ∷ senderIndirect c
+    ∷ senderNotInstant c
+    ∷ senderNoOwner c
+    ∷ identifierBad c
+    ∷ identifierRepeated c s
+    ∷ createdElsewhen c
+    ∷ notFromSender c
+    ∷ originalBad c
+    ∷ originalUnknown c s
+    ∷ originalDiffers c s
+    ∷ creditorAnothers c
+    ∷ debtorAnothers c
+    ∷ currenciesDiffer c
+    ∷ digitsWrong c
+    ∷ amountForeign c
+    ∷ uetrRepeated c s
+    ∷ creditorNotHryvnia c
+    ∷ debtorNotHryvnia c
+    ∷ debitBlocked (c .movement) s
+    ∷ creditBlocked (c .movement) s
+    ∷ moneyShort (c .movement) s
+    ∷ limitPassed (c .movement) s
+    ∷ limitZero (c .movement) s
+    ∷ debtorUnlisted c
+    ∷ creditorNoProvider c
+    ∷ instructedNoBank c
+    ∷ creditorNotInstant c
+    ∷ creditorNotServed c
+    ∷ debtorElsewhere c
+    ∷ creditorElsewhere c
+    ∷ previousNotServing c
+    ∷ instructingNotServing c
+    ∷ ibanWrong c
+    ∷ []
+
+-- the check with a number fails
+unfoldable pub fails : Case → List ℕ → ℕ → Bool
+fails c s number = getD (rowsOf c s) number false
+
+-- the first failing one in an order, 0 where none fails
+unfoldable pub firstFailing : (ℕ → Bool) → List ℕ → ℕ
+firstFailing failing [] = 0
+firstFailing failing (k ∷ order) = cond (failing k) k (firstFailing failing order)
+
+-- the check that a message fails by, in the order of its kind
+unfoldable pub verdict : Case → List ℕ → ℕ
+verdict c s = firstFailing (fails c s) (orderOf (c .message .kind))
+
+-- how a transfer ends: ACCC with 0, or RJCT with the check
+unfoldable pub transferred : ℕ → Outcome
+transferred check = cond (eqb check 0) (record { status = statusNumber Accc; check = 0 }) (record { status = statusNumber Rjct; check = check })
+
+-- what a pacs.028 tells of the payment that it asks after
+unfoldable pub toldOf : Earlier → Outcome
+toldOf (Of x) = record { status = x .status; check = x .check }
+toldOf None = record { status = statusNumber Pdng; check = 0 }
+
+-- what a pacs.028 answers: its own first failing check as PDNG, else how the payment ended
+unfoldable pub answered : ℕ → Earlier → Outcome
+answered check x = cond (eqb check 0) (toldOf x) (record { status = statusNumber Pdng; check = check })
+
+unfoldable pub endOf : Kind → ℕ → Earlier → Outcome
+endOf Pacs008 check x = transferred check
+endOf Camt050 check x = transferred check
+endOf Pacs028 check x = answered check x
+
+-- what becomes of a message
+unfoldable pub outcome : Case → List ℕ → Outcome
+outcome c s = endOf (c .message .kind) (verdict c s) (askedAfter c s)
+
+-- a transfer that is carried out
+unfoldable pub carried : Kind → Outcome → Bool
+carried Pacs008 o = eqb (o .status) (statusNumber Accc)
+carried Camt050 o = eqb (o .status) (statusNumber Accc)
+carried Pacs028 o = false
+
+-- the step that a message is: what document 01 says that a step stores, with a movement exactly where a transfer is carried out
+unfoldable pub stepMade : Case → Outcome → Step
+stepMade c o =
+    let moved : ℕ → ℕ = λ n. cond (carried (c .message .kind) o) n 0 in
+    record {
+      kind = kindNumber (c .message .kind);
+      status = o .status;
+      check = o .check;
+      sender = c .sender;
+      id = c .message .id .stored;
+      uetr = c .message .uetr;
+      created = orZero (c .message .created);
+      reference = c .message .reference;
+      debit = moved (orZero (c .movement .debit));
+      credit = moved (orZero (c .movement .credit));
+      amount = moved (c .movement .amount);
+      account = 0;
+      old = noSettings;
+      given = noSettings;
+    }

@@ -1,0 +1,25 @@
+// The judge: each of the 34 checks, the first that fails in the order of a message's kind, and what becomes of the message. Document 01,
+// "The checks".
+// It knows a seat's accounts and journal through `seat`, participants through `directory`, and changes nothing. What a check looks at stands in
+// `specs/Case.antt`, the rows in `specs/Rows.antt`, the verdict and the step in `specs/Verdict.antt`.
+
+mod accounts;
+mod case;
+mod header;
+mod money;
+mod order;
+mod outcome;
+mod repeats;
+mod routing;
+mod sender;
+mod values;
+
+pub use case::Case;
+pub use case::Movement;
+pub use case::case_of;
+pub use case::movement_of;
+pub use order::fails;
+pub use order::first_failing;
+pub use outcome::Outcome;
+pub use outcome::end_of;
+pub use outcome::step_of;

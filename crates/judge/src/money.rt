@@ -1,0 +1,98 @@
+// Checks 20 to 24: blocks, limits and available money of the accounts that a movement is between. The rules stand in `specs/Rows.antt`, one
+// definition for each function.
+use crate::case::Movement;
+use layout::account;
+use layout::rows::Account;
+use seat::available_below;
+use seat::blocked_into;
+use seat::blocked_out;
+use seat::turnover_above;
+use seat::turnover_shut;
+use shape::value::Value;
+ghost use mathlib.Core.Path.{_≡_};
+ghost use lib.ListN.{length};
+ghost use Rattle.layout.specs.Seat.{seatLong};
+ghost use Rattle.judge.specs.Rows.{accountAt, debitBlocked, creditBlocked, moneyShort, limitPassed, limitZero};
+
+// An account, or that there is none.
+pub enum Holding {
+    Of(Account),
+    None,
+}
+
+// The account with a number in the seat.
+fn account_at(s: &[u64], number: Value) -> Holding
+    requires { ⌜ length (now s) ≡ seatLong ⌝ }
+    ensures { λ r. ⌜ r ≡ accountAt number (now (s .entry)) ⌝ }
+{
+    match number {
+        Value::Of(i) => {
+            if i < 32 {
+                Holding::Of(account(s, i as usize))
+            } else {
+                Holding::None
+            }
+        }
+        Value::None => Holding::None,
+    }
+}
+
+pub fn debit_blocked(m: Movement, s: &[u64]) -> bool
+    requires { ⌜ length (now s) ≡ seatLong ⌝ }
+    ensures { λ r. ⌜ r ≡ debitBlocked m (now (s .entry)) ⌝ }
+{
+    let number = m.debit;
+    let holding = account_at(s, number);
+    match holding {
+        Holding::Of(a) => blocked_out(a),
+        Holding::None => false,
+    }
+}
+
+pub fn credit_blocked(m: Movement, s: &[u64]) -> bool
+    requires { ⌜ length (now s) ≡ seatLong ⌝ }
+    ensures { λ r. ⌜ r ≡ creditBlocked m (now (s .entry)) ⌝ }
+{
+    let number = m.credit;
+    let holding = account_at(s, number);
+    match holding {
+        Holding::Of(a) => blocked_into(a),
+        Holding::None => false,
+    }
+}
+
+pub fn money_short(m: Movement, s: &[u64]) -> bool
+    requires { ⌜ length (now s) ≡ seatLong ⌝ }
+    ensures { λ r. ⌜ r ≡ moneyShort m (now (s .entry)) ⌝ }
+{
+    let number = m.debit;
+    let holding = account_at(s, number);
+    match holding {
+        Holding::Of(a) => available_below(a, m.amount),
+        Holding::None => false,
+    }
+}
+
+pub fn limit_passed(m: Movement, s: &[u64]) -> bool
+    requires { ⌜ length (now s) ≡ seatLong ⌝ }
+    ensures { λ r. ⌜ r ≡ limitPassed m (now (s .entry)) ⌝ }
+{
+    let number = m.debit;
+    let holding = account_at(s, number);
+    match holding {
+        Holding::Of(a) => turnover_above(a, m.amount),
+        Holding::None => false,
+    }
+}
+
+pub fn limit_zero(m: Movement, s: &[u64]) -> bool
+    requires { ⌜ length (now s) ≡ seatLong ⌝ }
+    ensures { λ r. ⌜ r ≡ limitZero m (now (s .entry)) ⌝ }
+{
+    let number = m.debit;
+    let holding = account_at(s, number);
+    match holding {
+        Holding::Of(a) => turnover_shut(a),
+        Holding::None => false,
+    }
+}
