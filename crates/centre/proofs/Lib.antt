@@ -1,0 +1,10 @@
+pub mod First
+pub mod Joined
+pub mod Judged
+pub mod Lent
+pub mod Listed
+pub mod Refusals
+pub mod Settled
+pub mod SlipsTold
+pub mod Submitted
+pub mod Told

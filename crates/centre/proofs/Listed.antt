@@ -1,0 +1,43 @@
+-- A fit directory as it was gathered: it has at most 16 records, it is the list of these, and what is found in it stands at a place that a seat
+-- has.
+-- Assumes nothing.
+use mathlib.Core.Path.{_≡_, refl, sym, ap, _∙_}
+use mathlib.Core.Bool.{Bool, true, false, false≢true}
+use Prim.Native.Nat.{ℕ, _≤_}
+use lib.Dec.{leb}
+use lib.ListN.{length}
+use borrow.Author.Tests.{leb-true}
+use Rattle.shape.proofs.Tests.{and-false}
+use Rattle.directory.specs.declared.Gathered.{Gathered}
+use Rattle.directory.specs.declared.Found.{Found}
+use Rattle.directory.specs.Directory.{found, isFit}
+use Rattle.directory.specs.Gathering.{recordsIn, directoryIn, fitGathered}
+use Rattle.directory.proofs.Finds.{fit-few}
+use Rattle.directory.proofs.Gathers.{directory-fit, directory-records}
+use Rattle.seat.specs.Calls.{placeFits}
+use Rattle.judge.proofs.Places.{found-fits}
+
+too-many : (g : Gathered) → leb (g .count) 16 ≡ false → fitGathered g ≡ false
+unfolding fitGathered
+too-many g e = rw (e, and-false (leb 1 (g .count)) false refl)
+
+pub listed-few : (g : Gathered) → fitGathered g ≡ true → g .count ≤ 16
+listed-few g fit = by-count (leb (g .count) 16) refl
+  where
+    by-count : (few : Bool) → leb (g .count) 16 ≡ few → g .count ≤ 16
+    by-count true e = leb-true (g .count) 16 e
+    by-count false e = absurd (false≢true (sym (too-many g e) ∙ fit))
+
+module _ (g : Gathered) (sixteen : length (g .records) ≡ 16) where
+  pub listed-unfit : fitGathered g ≡ false → isFit (directoryIn g) ≡ false
+  listed-unfit e = sym (directory-fit g sixteen) ∙ e
+
+  module _ (fit : fitGathered g ≡ true) where
+    pub directory-is-fit : isFit (directoryIn g) ≡ true
+    directory-is-fit = sym (directory-fit g sixteen) ∙ fit
+
+    pub records-fit : isFit (recordsIn g) ≡ true
+    records-fit = ap isFit (sym (directory-records g fit)) ∙ directory-is-fit
+
+    pub owner-fits : (code : ℕ) (f : Found) → f ≡ found (recordsIn g) code → placeFits f ≡ true
+    owner-fits code f e = ap placeFits e ∙ found-fits (recordsIn g) code (fit-few (recordsIn g) records-fit)

@@ -1,0 +1,385 @@
+-- Of each call the answer and the room behind it, at each place where it can end: the room is unfit; the room is fit and the directory is not;
+-- both are fit and the seat is above 7; else what the seat's own call answers and leaves.
+-- Assumes nothing.
+use mathlib.Core.Path.{_≡_, sym, ap, subst, _∙_}
+use mathlib.Core.Bool.{true, false, not, _&&_}
+use mathlib.Core.List.{List, [], _∷_}
+use Prim.Native.Nat.{ℕ, suc, _≤_, _<_}
+use lib.Dec.{eqb}
+use lib.ListN.{length, replicate}
+use borrow.Author.Tests.{eq-eqb, ne-eqb, le-leb, lt-leb}
+use Rattle.slip.specs.Meaning.{openings, steps}
+use Rattle.directory.specs.declared.Participant.{Participant}
+use Rattle.directory.specs.declared.Found.{Found}
+use Rattle.directory.specs.declared.Gathered.{Gathered}
+use Rattle.directory.specs.Directory.{found, isFit}
+use Rattle.directory.specs.Gathering.{recordsIn, directoryIn, fitGathered}
+use Rattle.directory.proofs.Gathers.{directory-records}
+use Rattle.layout.specs.declared.rows.Head.{Head}
+use Rattle.layout.specs.declared.rows.Account.{Account}
+use Rattle.layout.specs.declared.rows.Settings.{Settings}
+use Rattle.layout.specs.Rows.{accountRow}
+use Rattle.layout.specs.Seat.{seatLong, roomLong, headOf, accountOf, seatOf, withSeat}
+use Rattle.seat.specs.declared.calls.Answer as seat
+use Rattle.seat.specs.declared.calls.Answer.the-variants as seat-answer
+use Rattle.seat.specs.declared.calls.Reading.{Reading}
+use Rattle.seat.specs.declared.calls.Wish.{Wish}
+use Rattle.seat.specs.Steps.{settingsFit}
+use Rattle.seat.specs.Working.{backed}
+use Rattle.seat.specs.Fit.{closedSeat, openSeat, roomFits}
+use Rattle.seat.specs.Calls.{
+  noTicket,
+  sumsGood,
+  accountNamed,
+  accountNumber,
+  settingsOf,
+  openAnswer,
+  closeAnswer,
+  setAnswer,
+  backAnswer,
+  readAnswer,
+  readValue,
+  openAfter as seatOpened,
+  closeAfter as seatClosed,
+  setAfter as seatSet,
+  backAfter as seatBacked,
+}
+use Rattle.seat.proofs.Rooms.{seat-lent, room-long}
+use Rattle.seat.proofs.Undone.{opening-grows}
+use Rattle.centre.specs.declared.Answer.{Answer}
+use Rattle.centre.specs.declared.Answer.the-variants.{Done, RoomUnfit, DirectoryUnfit, NoTicket}
+use Rattle.centre.specs.declared.Ticket.{Ticket}
+use Rattle.centre.specs.Answers.{isDone, behind, told, seatTold}
+use Rattle.centre.specs.Calls.{
+  noSeat,
+  ticketBad,
+  layTold,
+  layAfter,
+  openTold,
+  openAfter,
+  closeTold,
+  closeAfter,
+  setTold,
+  setIn,
+  setAfter,
+  backTold,
+  backAfter,
+  readTold,
+}
+use Rattle.centre.proofs.Lent.{lentOf, backIn, room-back, lent-again}
+use Rattle.centre.proofs.Listed.{listed-unfit, directory-is-fit, records-fit}
+use Rattle.centre.proofs.Joined.{close-table, open-table, set-table, back-table, read-table, told-with, room-behind}
+
+-- lay out
+pub lay-refused : (room : List ℕ) → (length room ≡ roomLong → ⊥) → (told RoomUnfit ≡ layTold room) × (room ≡ layAfter room)
+unfolding told layTold layAfter behind isDone
+lay-refused room h = (rw (ne-eqb (length room) roomLong h), rw (ne-eqb (length room) roomLong h))
+
+pub lay-done : (room : List ℕ) → length room ≡ roomLong → (u : List ℕ) → u ≡ replicate (length room) 0
+    → (told Done ≡ layTold room) × (u ≡ layAfter room)
+unfolding told layTold layAfter behind isDone
+lay-done room h u e = (rw (eq-eqb (length room) roomLong h), rw (eq-eqb (length room) roomLong h) (e ∙ ap (λ (n : ℕ). replicate n 0) h))
+
+-- close
+module _ (ticket : Ticket) (room : List ℕ) where
+  pub close-room-unfit : roomFits room ≡ false → (told RoomUnfit ≡ closeTold ticket room) × (room ≡ closeAfter ticket room)
+  unfolding told closeTold closeAfter behind isDone
+  close-room-unfit e = (rw e, rw e)
+
+  module _ (fit : roomFits room ≡ true) where
+    pub close-no-seat : 8 ≤ ticket .seat → (told NoTicket ≡ closeTold ticket room) × (room ≡ closeAfter ticket room)
+    unfolding told closeTold closeAfter behind isDone ticketBad noSeat
+    close-no-seat h = (rw (fit, le-leb 8 (ticket .seat) h), rw (fit, le-leb 8 (ticket .seat) h))
+
+    module _ (h : ticket .seat < 8) where
+      close-joined : seatTold (closeAnswer (ticket .opening) (seatOf room (ticket .seat))) [] ≡ closeTold ticket room
+      unfolding closeTold ticketBad noSeat closeAnswer
+      close-joined = rw (fit, lt-leb 8 (ticket .seat) h) (close-table (noTicket (ticket .opening) (seatOf room (ticket .seat))))
+
+      close-put : withSeat room (ticket .seat) (seatClosed (ticket .opening) (seatOf room (ticket .seat))) ≡ closeAfter ticket room
+      unfolding closeAfter seatClosed
+      close-put =
+          room-behind room (ticket .seat) (room-long room fit) h (closedSeat (headOf (seatOf room (ticket .seat)) .opening))
+          (closeAnswer (ticket .opening) (seatOf room (ticket .seat))) [] (closeTold ticket room) close-joined
+
+      pub close-end : (r : Answer) (a : seat.Answer) (u : List ℕ) → a ≡ closeAnswer (ticket .opening) (lentOf room (ticket .seat))
+          → u ≡ seatClosed (ticket .opening) (lentOf room (ticket .seat)) → told r ≡ seatTold a []
+          → (told r ≡ closeTold ticket room) × (backIn room (ticket .seat) u ≡ closeAfter ticket room)
+      close-end r a u e f t = (
+        t ∙ ap (λ (b : seat.Answer). seatTold b []) (e ∙ ap (closeAnswer (ticket .opening)) (seat-lent room (ticket .seat))) ∙ close-joined,
+        room-back room (ticket .seat) u
+            ∙ ap (withSeat room (ticket .seat)) (f ∙ ap (seatClosed (ticket .opening)) (seat-lent room (ticket .seat)))
+            ∙ close-put,
+      )
+
+-- take back
+module _ (ticket : Ticket) (room : List ℕ) where
+  pub back-room-unfit : roomFits room ≡ false → (told RoomUnfit ≡ backTold ticket room) × (room ≡ backAfter ticket room)
+  unfolding told backTold backAfter behind isDone
+  back-room-unfit e = (rw e, rw e)
+
+  module _ (fit : roomFits room ≡ true) where
+    pub back-no-seat : 8 ≤ ticket .seat → (told NoTicket ≡ backTold ticket room) × (room ≡ backAfter ticket room)
+    unfolding told backTold backAfter behind isDone ticketBad noSeat
+    back-no-seat h = (rw (fit, le-leb 8 (ticket .seat) h), rw (fit, le-leb 8 (ticket .seat) h))
+
+    module _ (h : ticket .seat < 8) where
+      back-joined : seatTold (backAnswer (ticket .opening) (seatOf room (ticket .seat))) [] ≡ backTold ticket room
+      unfolding backTold ticketBad noSeat backAnswer
+      back-joined =
+          rw (fit, lt-leb 8 (ticket .seat) h)
+          (back-table (noTicket (ticket .opening) (seatOf room (ticket .seat))) (eqb (headOf (seatOf room (ticket .seat)) .steps) 0))
+
+      back-put : withSeat room (ticket .seat) (seatBacked (ticket .opening) (seatOf room (ticket .seat))) ≡ backAfter ticket room
+      unfolding backAfter seatBacked
+      back-put =
+          room-behind room (ticket .seat) (room-long room fit) h (backed (seatOf room (ticket .seat)))
+          (backAnswer (ticket .opening) (seatOf room (ticket .seat))) [] (backTold ticket room) back-joined
+
+      pub back-end : (r : Answer) (a : seat.Answer) (u : List ℕ) → a ≡ backAnswer (ticket .opening) (lentOf room (ticket .seat))
+          → u ≡ seatBacked (ticket .opening) (lentOf room (ticket .seat)) → told r ≡ seatTold a []
+          → (told r ≡ backTold ticket room) × (backIn room (ticket .seat) u ≡ backAfter ticket room)
+      back-end r a u e f t = (
+        t ∙ ap (λ (b : seat.Answer). seatTold b []) (e ∙ ap (backAnswer (ticket .opening)) (seat-lent room (ticket .seat))) ∙ back-joined,
+        room-back room (ticket .seat) u
+            ∙ ap (withSeat room (ticket .seat)) (f ∙ ap (seatBacked (ticket .opening)) (seat-lent room (ticket .seat)))
+            ∙ back-put,
+      )
+
+-- open, over the list of participants
+module _ (dir : List Participant) (k : ℕ) (sums room : List ℕ) where
+  open-room-bad : roomFits room ≡ false → (told RoomUnfit ≡ openTold dir k sums room) × (room ≡ openAfter dir k sums room)
+  unfolding told openTold openAfter behind isDone
+  open-room-bad e = (rw e, rw e)
+
+  module _ (fit : roomFits room ≡ true) where
+    open-dir-bad : isFit dir ≡ false → (told DirectoryUnfit ≡ openTold dir k sums room) × (room ≡ openAfter dir k sums room)
+    unfolding told openTold openAfter behind isDone
+    open-dir-bad e = (rw (fit, e), rw (fit, e))
+
+    module _ (listed : isFit dir ≡ true) where
+      open-seat-bad : 8 ≤ k → (told NoTicket ≡ openTold dir k sums room) × (room ≡ openAfter dir k sums room)
+      unfolding told openTold openAfter behind isDone noSeat
+      open-seat-bad h = (rw (fit, listed, le-leb 8 k h), rw (fit, listed, le-leb 8 k h))
+
+      module _ (h : k < 8) where
+        open-joined : seatTold (openAnswer dir sums (seatOf room k)) (suc (headOf (seatOf room k) .opening) ∷ []) ≡ openTold dir k sums room
+        unfolding openTold noSeat openAnswer
+        open-joined =
+            rw (fit, listed, lt-leb 8 k h)
+            (open-table (eqb (headOf (seatOf room k) .opened) 1) (eqb (headOf (seatOf room k) .opening) openings) (not (sumsGood dir sums))
+            (suc (headOf (seatOf room k) .opening) ∷ []))
+
+        open-put : withSeat room k (seatOpened dir sums (seatOf room k)) ≡ openAfter dir k sums room
+        unfolding openAfter seatOpened
+        open-put =
+            room-behind room k (room-long room fit) h (openSeat (suc (headOf (seatOf room k) .opening)) sums)
+            (openAnswer dir sums (seatOf room k)) (suc (headOf (seatOf room k) .opening) ∷ []) (openTold dir k sums room) open-joined
+
+        -- the head that is read behind the call has the new opening number where the call is done
+        open-done : (r : Answer) (a : seat.Answer) (u : List ℕ) (head : Head) → a ≡ openAnswer dir sums (lentOf room k)
+            → u ≡ seatOpened dir sums (lentOf room k) → length u ≡ seatLong → head ≡ headOf (lentOf (backIn room k u) k)
+            → told r ≡ seatTold a (head .opening ∷ [])
+            → (told r ≡ openTold dir k sums room) × (backIn room k u ≡ openAfter dir k sums room)
+        open-done r a u head e f long read t =
+            let answer : a ≡ openAnswer dir sums (seatOf room k) = e ∙ ap (openAnswer dir sums) (seat-lent room k) in
+            let left : u ≡ seatOpened dir sums (seatOf room k) = f ∙ ap (seatOpened dir sums) (seat-lent room k) in
+            let now : head ≡ headOf (seatOpened dir sums (seatOf room k)) =
+            read ∙ ap headOf (lent-again room fit k h u long ∙ left) in (
+              t ∙ told-with a (head .opening ∷ []) (suc (headOf (seatOf room k) .opening) ∷ [])
+                  (λ (d : a ≡ seat-answer.Done). ap (λ (n : ℕ). n ∷ [])
+                  (ap (λ (x : Head). x .opening) now ∙ opening-grows dir sums (seatOf room k) (sym answer ∙ d)))
+                  ∙ ap (λ (b : seat.Answer). seatTold b (suc (headOf (seatOf room k) .opening) ∷ [])) answer
+                  ∙ open-joined,
+              room-back room k u ∙ ap (withSeat room k) left ∙ open-put,
+            )
+
+-- open, with the directory as it was gathered
+module _ (g : Gathered) (k : ℕ) (sums room : List ℕ) where
+  pub open-room-unfit : roomFits room ≡ false
+      → (told RoomUnfit ≡ openTold (directoryIn g) k sums room) × (room ≡ openAfter (directoryIn g) k sums room)
+  open-room-unfit e = open-room-bad (directoryIn g) k sums room e
+
+  module _ (fit : roomFits room ≡ true) (sixteen : length (g .records) ≡ 16) where
+    pub open-unlisted : fitGathered g ≡ false
+        → (told DirectoryUnfit ≡ openTold (directoryIn g) k sums room) × (room ≡ openAfter (directoryIn g) k sums room)
+    open-unlisted e = open-dir-bad (directoryIn g) k sums room fit (listed-unfit g sixteen e)
+
+    module _ (listed : fitGathered g ≡ true) where
+      pub open-no-seat : 8 ≤ k → (told NoTicket ≡ openTold (directoryIn g) k sums room) × (room ≡ openAfter (directoryIn g) k sums room)
+      open-no-seat h = open-seat-bad (directoryIn g) k sums room fit (directory-is-fit g sixteen listed) h
+
+      pub open-end : k < 8 → (r : Answer) (a : seat.Answer) (u : List ℕ) (head : Head) → a ≡ openAnswer (recordsIn g) sums (lentOf room k)
+          → u ≡ seatOpened (recordsIn g) sums (lentOf room k) → length u ≡ seatLong → head ≡ headOf (lentOf (backIn room k u) k)
+          → told r ≡ seatTold a (head .opening ∷ [])
+          → (told r ≡ openTold (directoryIn g) k sums room) × (backIn room k u ≡ openAfter (directoryIn g) k sums room)
+      open-end h r a u head e f long read t =
+          subst (λ (dir : List Participant). (told r ≡ openTold dir k sums room) × (backIn room k u ≡ openAfter dir k sums room))
+          (sym (directory-records g listed))
+          (open-done (recordsIn g) k sums room fit (records-fit g sixteen listed) h r a u head e f long read t)
+
+-- set, over the list of participants
+module _ (dir : List Participant) (ticket : Ticket) (owner number : ℕ) (wish : Wish) (room : List ℕ) where
+  set-room-bad : roomFits room ≡ false
+      → (told RoomUnfit ≡ setTold dir ticket owner number wish room) × (room ≡ setAfter dir ticket owner number wish room)
+  unfolding told setTold setAfter behind isDone
+  set-room-bad e = (rw e, rw e)
+
+  module _ (fit : roomFits room ≡ true) where
+    set-dir-bad : isFit dir ≡ false
+        → (told DirectoryUnfit ≡ setTold dir ticket owner number wish room) × (room ≡ setAfter dir ticket owner number wish room)
+    unfolding told setTold setAfter behind isDone
+    set-dir-bad e = (rw (fit, e), rw (fit, e))
+
+    module _ (listed : isFit dir ≡ true) where
+      set-seat-bad : 8 ≤ ticket .seat
+          → (told NoTicket ≡ setTold dir ticket owner number wish room) × (room ≡ setAfter dir ticket owner number wish room)
+      unfolding told setTold setAfter behind isDone ticketBad noSeat
+      set-seat-bad h = (rw (fit, listed, le-leb 8 (ticket .seat) h), rw (fit, listed, le-leb 8 (ticket .seat) h))
+
+      module _ (h : ticket .seat < 8) where
+        set-joined : seatTold (setAnswer (ticket .opening) (found dir owner) number (settingsOf wish) (seatOf room (ticket .seat))) []
+            ≡ setTold dir ticket owner number wish room
+        unfolding setTold ticketBad noSeat setAnswer
+        set-joined =
+            rw (fit, listed, lt-leb 8 (ticket .seat) h)
+            (set-table (noTicket (ticket .opening) (seatOf room (ticket .seat)))
+            (not (accountNamed (found dir owner) number && settingsFit (settingsOf wish)))
+            (eqb (headOf (seatOf room (ticket .seat)) .steps) steps))
+
+        set-put : withSeat room (ticket .seat)
+            (seatSet (ticket .opening) (found dir owner) number (settingsOf wish) (seatOf room (ticket .seat)))
+            ≡ setAfter dir ticket owner number wish room
+        unfolding setAfter seatSet setIn
+        set-put =
+            room-behind room (ticket .seat) (room-long room fit) h (setIn (accountNumber (found dir owner) number) wish (seatOf room (ticket .seat)))
+            (setAnswer (ticket .opening) (found dir owner) number (settingsOf wish) (seatOf room (ticket .seat))) []
+            (setTold dir ticket owner number wish room) set-joined
+
+        set-done : (r : Answer) (a : seat.Answer) (u : List ℕ) (f : Found) (given : Settings) → f ≡ found dir owner → given ≡ settingsOf wish
+            → a ≡ setAnswer (ticket .opening) f number given (lentOf room (ticket .seat))
+            → u ≡ seatSet (ticket .opening) f number given (lentOf room (ticket .seat)) → told r ≡ seatTold a []
+            → (told r ≡ setTold dir ticket owner number wish room)
+            × (backIn room (ticket .seat) u ≡ setAfter dir ticket owner number wish room)
+        set-done r a u f given p q e left t =
+            let here = seat-lent room (ticket .seat) in (
+              t ∙ ap (λ (b : seat.Answer). seatTold b [])
+                  (e ∙ ap (setAnswer (ticket .opening) f number given) here
+                  ∙ ap (λ (x : Found). setAnswer (ticket .opening) x number given (seatOf room (ticket .seat))) p
+                  ∙ ap (λ (x : Settings). setAnswer (ticket .opening) (found dir owner) number x (seatOf room (ticket .seat))) q)
+                  ∙ set-joined,
+              room-back room (ticket .seat) u
+                  ∙ ap (withSeat room (ticket .seat))
+                  (left ∙ ap (seatSet (ticket .opening) f number given) here
+                  ∙ ap (λ (x : Found). seatSet (ticket .opening) x number given (seatOf room (ticket .seat))) p
+                  ∙ ap (λ (x : Settings). seatSet (ticket .opening) (found dir owner) number x (seatOf room (ticket .seat))) q)
+                  ∙ set-put,
+            )
+
+-- set, with the directory as it was gathered
+module _ (g : Gathered) (ticket : Ticket) (owner number : ℕ) (wish : Wish) (room : List ℕ) where
+  pub set-room-unfit : roomFits room ≡ false
+      → (told RoomUnfit ≡ setTold (directoryIn g) ticket owner number wish room) × (room ≡ setAfter (directoryIn g) ticket owner number wish room)
+  set-room-unfit e = set-room-bad (directoryIn g) ticket owner number wish room e
+
+  module _ (fit : roomFits room ≡ true) (sixteen : length (g .records) ≡ 16) where
+    pub set-unlisted : fitGathered g ≡ false
+        → (told DirectoryUnfit ≡ setTold (directoryIn g) ticket owner number wish room)
+        × (room ≡ setAfter (directoryIn g) ticket owner number wish room)
+    set-unlisted e = set-dir-bad (directoryIn g) ticket owner number wish room fit (listed-unfit g sixteen e)
+
+    module _ (listed : fitGathered g ≡ true) where
+      pub set-no-seat : 8 ≤ ticket .seat
+          → (told NoTicket ≡ setTold (directoryIn g) ticket owner number wish room)
+          × (room ≡ setAfter (directoryIn g) ticket owner number wish room)
+      set-no-seat h = set-seat-bad (directoryIn g) ticket owner number wish room fit (directory-is-fit g sixteen listed) h
+
+      pub set-end : ticket .seat < 8 → (r : Answer) (a : seat.Answer) (u : List ℕ) (f : Found) (given : Settings)
+          → f ≡ found (recordsIn g) owner → given ≡ settingsOf wish
+          → a ≡ setAnswer (ticket .opening) f number given (lentOf room (ticket .seat))
+          → u ≡ seatSet (ticket .opening) f number given (lentOf room (ticket .seat)) → told r ≡ seatTold a []
+          → (told r ≡ setTold (directoryIn g) ticket owner number wish room)
+          × (backIn room (ticket .seat) u ≡ setAfter (directoryIn g) ticket owner number wish room)
+      set-end h r a u f given p q e left t =
+          subst
+          (λ (dir : List Participant).
+          (told r ≡ setTold dir ticket owner number wish room) × (backIn room (ticket .seat) u ≡ setAfter dir ticket owner number wish room))
+          (sym (directory-records g listed))
+          (set-done (recordsIn g) ticket owner number wish room fit (records-fit g sixteen listed) h r a u f given p q e left t)
+
+-- a read that is done reads the account
+read-account-is : (opening : ℕ) (owner : Found) (number : ℕ) (s : List ℕ) → readAnswer opening owner number s ≡ seat-answer.Done
+    → readValue opening owner number s ≡ accountOf s (accountNumber owner number)
+unfolding readValue
+read-account-is opening owner number s d = rw d
+
+-- read, over the list of participants
+module _ (dir : List Participant) (ticket : Ticket) (owner number : ℕ) (room : List ℕ) where
+  read-room-bad : roomFits room ≡ false → told RoomUnfit ≡ readTold dir ticket owner number room
+  unfolding told readTold
+  read-room-bad e = rw e
+
+  module _ (fit : roomFits room ≡ true) where
+    read-dir-bad : isFit dir ≡ false → told DirectoryUnfit ≡ readTold dir ticket owner number room
+    unfolding told readTold
+    read-dir-bad e = rw (fit, e)
+
+    module _ (listed : isFit dir ≡ true) where
+      read-seat-bad : 8 ≤ ticket .seat → told NoTicket ≡ readTold dir ticket owner number room
+      unfolding told readTold ticketBad noSeat
+      read-seat-bad h = rw (fit, listed, le-leb 8 (ticket .seat) h)
+
+      module _ (h : ticket .seat < 8) where
+        abbrev accountRead : Account
+        accountRead = accountOf (seatOf room (ticket .seat)) (accountNumber (found dir owner) number)
+
+        read-joined : seatTold (readAnswer (ticket .opening) (found dir owner) number (seatOf room (ticket .seat))) (accountRow accountRead)
+            ≡ readTold dir ticket owner number room
+        unfolding readTold ticketBad noSeat readAnswer
+        read-joined =
+            rw (fit, listed, lt-leb 8 (ticket .seat) h)
+            (read-table (noTicket (ticket .opening) (seatOf room (ticket .seat))) (not (accountNamed (found dir owner) number))
+            (accountRow accountRead))
+
+        read-done : (r : Answer) (x : Reading) (f : Found) → f ≡ found dir owner
+            → x ≡ record {
+              answer = readAnswer (ticket .opening) f number (lentOf room (ticket .seat));
+              account = readValue (ticket .opening) f number (lentOf room (ticket .seat));
+            }
+            → told r ≡ seatTold (x .answer) (accountRow (x .account)) → told r ≡ readTold dir ticket owner number room
+        read-done r x f p e t =
+            let here = seat-lent room (ticket .seat) in
+            let answer : x .answer ≡ readAnswer (ticket .opening) (found dir owner) number (seatOf room (ticket .seat)) =
+            ap (λ (y : Reading). y .answer) e ∙ ap (readAnswer (ticket .opening) f number) here
+            ∙ ap (λ (z : Found). readAnswer (ticket .opening) z number (seatOf room (ticket .seat))) p in
+            let account : x .account ≡ readValue (ticket .opening) (found dir owner) number (seatOf room (ticket .seat)) =
+            ap (λ (y : Reading). y .account) e ∙ ap (readValue (ticket .opening) f number) here
+            ∙ ap (λ (z : Found). readValue (ticket .opening) z number (seatOf room (ticket .seat))) p in
+            t ∙ told-with (x .answer) (accountRow (x .account)) (accountRow accountRead)
+            (λ (d : x .answer ≡ seat-answer.Done).
+            ap accountRow (account ∙ read-account-is (ticket .opening) (found dir owner) number (seatOf room (ticket .seat)) (sym answer ∙ d)))
+            ∙ ap (λ (b : seat.Answer). seatTold b (accountRow accountRead)) answer
+            ∙ read-joined
+
+-- read, with the directory as it was gathered
+module _ (g : Gathered) (ticket : Ticket) (owner number : ℕ) (room : List ℕ) where
+  pub read-room-unfit : roomFits room ≡ false → told RoomUnfit ≡ readTold (directoryIn g) ticket owner number room
+  read-room-unfit e = read-room-bad (directoryIn g) ticket owner number room e
+
+  module _ (fit : roomFits room ≡ true) (sixteen : length (g .records) ≡ 16) where
+    pub read-unlisted : fitGathered g ≡ false → told DirectoryUnfit ≡ readTold (directoryIn g) ticket owner number room
+    read-unlisted e = read-dir-bad (directoryIn g) ticket owner number room fit (listed-unfit g sixteen e)
+
+    module _ (listed : fitGathered g ≡ true) where
+      pub read-no-seat : 8 ≤ ticket .seat → told NoTicket ≡ readTold (directoryIn g) ticket owner number room
+      read-no-seat h = read-seat-bad (directoryIn g) ticket owner number room fit (directory-is-fit g sixteen listed) h
+
+      pub read-end : ticket .seat < 8 → (r : Answer) (x : Reading) (f : Found) → f ≡ found (recordsIn g) owner
+          → x ≡ record {
+            answer = readAnswer (ticket .opening) f number (lentOf room (ticket .seat));
+            account = readValue (ticket .opening) f number (lentOf room (ticket .seat));
+          }
+          → told r ≡ seatTold (x .answer) (accountRow (x .account)) → told r ≡ readTold (directoryIn g) ticket owner number room
+      read-end h r x f p e t =
+          subst (λ (dir : List Participant). told r ≡ readTold dir ticket owner number room) (sym (directory-records g listed))
+          (read-done (recordsIn g) ticket owner number room fit (records-fit g sixteen listed) h r x f p e t)

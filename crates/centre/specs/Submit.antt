@@ -1,0 +1,95 @@
+-- Submit: a message of a sender, on a date, as a sheet. Document 01, "Calls and refusals", "The checks", "The slip". A message that passes refusal
+-- 12 is one step, carried out or not, and its slip stands in the first five bytes of the buffer.
+use mathlib.Core.Bool.{Bool, not, _&&_, _||_}
+use mathlib.Core.List.{List, [], _∷_, _++_}
+use Prim.Native.Nat.{ℕ, suc}
+use lib.Dec.{leb, ltb, eqb}
+use lib.ListN.{length, drop}
+use Rattle.shape.specs.Dates.{isDate}
+use Rattle.slip.specs.declared.Slip.{Slip}
+use Rattle.slip.specs.Meaning.{steps, kindNumber}
+use Rattle.slip.specs.Image.{image}
+use Rattle.message.specs.declared.Answer.{Answer}
+use Rattle.message.specs.declared.Answer.the-variants.{IllFormed, BadField, Good}
+use Rattle.message.specs.Received.{numberOf, receivedOf}
+use Rattle.directory.specs.declared.Participant.{Participant}
+use Rattle.directory.specs.Directory.{codeMost, isFit}
+use Rattle.layout.specs.declared.rows.Step.{Step}
+use Rattle.layout.specs.Seat.{headOf, seatOf, withSeat}
+use Rattle.seat.specs.Steps.{noStep}
+use Rattle.seat.specs.Working.{stepped}
+use Rattle.seat.specs.Fit.{roomFits}
+use Rattle.judge.specs.declared.case.Case.{Case}
+use Rattle.judge.specs.Case.{caseOf}
+use Rattle.judge.specs.Verdict.{verdict, outcome, stepMade}
+use Rattle.centre.specs.declared.Ticket.{Ticket}
+use Rattle.centre.specs.Answers.{Told, done, refused, refusedWith, first, behind}
+use Rattle.centre.specs.Calls.{ticketBad}
+
+-- the check that the message of a sheet fails by in a seat; 0 where the sheet is no message
+unfoldable pub verdictOn : List Participant → ℕ → ℕ → Answer → List ℕ → ℕ
+verdictOn dir sender today (Good m) s = verdict (caseOf dir sender today m) s
+verdictOn dir sender today (IllFormed place) s = 0
+verdictOn dir sender today (BadField number) s = 0
+
+-- 12: it fails check 1 or 2
+unfoldable pub notTaken : ℕ → Bool
+notTaken check = eqb check 1 || eqb check 2
+
+-- the step that it is
+unfoldable pub stepOn : List Participant → ℕ → ℕ → Answer → List ℕ → Step
+stepOn dir sender today (Good m) s = stepMade (caseOf dir sender today m) (outcome (caseOf dir sender today m) s)
+stepOn dir sender today (IllFormed place) s = noStep
+stepOn dir sender today (BadField number) s = noStep
+
+-- the slip of a step: its kind, status and check, with its seat, opening and number
+unfoldable pub slipOf : Ticket → ℕ → Step → Slip
+slipOf ticket number x = record {
+  kind = x .kind;
+  status = x .status;
+  check = x .check;
+  seat = ticket .seat;
+  opening = ticket .opening;
+  step = number;
+}
+
+-- a message in its seat: the answer, the seat and the buffer behind it
+unfoldable pub judgedTold : Case → List ℕ → Told
+judgedTold c s = first ((notTaken (verdict c s), refusedWith 12 (verdict c s)) ∷ []) (done [])
+
+unfoldable pub judgedAfter : Case → List ℕ → List ℕ
+judgedAfter c s = behind (judgedTold c s) (stepped (stepMade c (outcome c s)) s) s
+
+unfoldable pub judgedSlip : Ticket → Case → List ℕ → List ℕ → List ℕ
+judgedSlip ticket c s slip =
+    behind (judgedTold c s) (image (slipOf ticket (suc (headOf s .steps)) (stepMade c (outcome c s))) ++ drop 5 slip) slip
+
+unfoldable pub submitTold : List Participant → Ticket → ℕ → ℕ → List ℕ → List ℕ → List ℕ → Told
+submitTold dir ticket sender today sheet slip room =
+    let s : List ℕ = seatOf room (ticket .seat) in
+    let received : Answer = receivedOf sheet .answer in
+    first (
+    (not (roomFits room), refused 1)
+    ∷ (not (isFit dir), refused 2)
+    ∷ (ticketBad ticket room, refused 3)
+    ∷ (not (leb sender codeMost && isDate today), refused 6)
+    ∷ (ltb (length slip) 5, refused 11)
+    ∷ (eqb (headOf s .steps) steps, refused 9)
+    ∷ (eqb (numberOf received .0) 7, refusedWith 7 (numberOf received .1))
+    ∷ (eqb (numberOf received .0) 8, refusedWith 8 (numberOf received .1))
+    ∷ (notTaken (verdictOn dir sender today received s), refusedWith 12 (verdictOn dir sender today received s))
+    ∷ []) (done [])
+
+-- the room behind it: one step more in the seat
+unfoldable pub submitAfter : List Participant → Ticket → ℕ → ℕ → List ℕ → List ℕ → List ℕ → List ℕ
+submitAfter dir ticket sender today sheet slip room =
+    let s : List ℕ = seatOf room (ticket .seat) in
+    behind (submitTold dir ticket sender today sheet slip room)
+    (withSeat room (ticket .seat) (stepped (stepOn dir sender today (receivedOf sheet .answer) s) s)) room
+
+-- the buffer behind it: the slip in the first five bytes, the rest as it was
+unfoldable pub submitSlip : List Participant → Ticket → ℕ → ℕ → List ℕ → List ℕ → List ℕ → List ℕ
+submitSlip dir ticket sender today sheet slip room =
+    let s : List ℕ = seatOf room (ticket .seat) in
+    behind (submitTold dir ticket sender today sheet slip room)
+    (image (slipOf ticket (suc (headOf s .steps)) (stepOn dir sender today (receivedOf sheet .answer) s)) ++ drop 5 slip) slip
