@@ -23,6 +23,7 @@ use Rattle.seat.specs.Steps.{stepFits}
 use Rattle.seat.specs.Working.{covered, possible, stepped}
 use Rattle.seat.specs.Fit.{openFits, seatFits}
 use Rattle.seat.specs.Calls.{noTicket}
+use Rattle.seat.proofs.Backed.{possible-fits}
 use Rattle.seat.proofs.Forward.{open-fits, fit-low}
 use Rattle.seat.proofs.Kept.{fit-long, fit-open}
 use Rattle.seat.proofs.Answered.{ticket-good}
@@ -73,11 +74,11 @@ unfolding told
 told-not check = refl
 
 -- a check that is none of the two
-not-one : (check : ℕ) → notTaken check ≡ false → check ≡ 1 → ⊥
+pub not-one : (check : ℕ) → notTaken check ≡ false → check ≡ 1 → ⊥
 unfolding notTaken
 not-one check e o = false≢true (sym e ∙ or-left (eqb check 1) (eqb check 2) (eq-eqb check 1 o))
 
-not-two : (check : ℕ) → notTaken check ≡ false → check ≡ 2 → ⊥
+pub not-two : (check : ℕ) → notTaken check ≡ false → check ≡ 2 → ⊥
 unfolding notTaken
 not-two check e o = false≢true (sym e ∙ or-right (eqb check 1) (eqb check 2) (eq-eqb check 2 o))
 
@@ -132,11 +133,6 @@ step-slip : (ticket : Ticket) (number : ℕ) (x : Step) (slip : List ℕ) → 5 
 unfolding slipOf
 step-slip ticket number x slip room saying seat least most first last =
     slip-good (slipOf ticket number x) slip room saying seat least most first last
-
--- a step that is possible fits
-possible-fits : (x : Step) (s : List ℕ) → possible x s ≡ true → stepFits x ≡ true
-unfolding possible
-possible-fits x s e = and-left (stepFits x) (covered x s) e
 
 -- taken: the step is the one of the outcome
 module _ (ticket : Ticket) (c : Case) (s slip : List ℕ) (check : ℕ) (v : check ≡ verdict c s) (n : (eqb check 1 || eqb check 2) ≡ false)

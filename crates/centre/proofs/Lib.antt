@@ -3,7 +3,10 @@ pub mod Joined
 pub mod Judged
 pub mod Lent
 pub mod Listed
+pub mod Passes
 pub mod Refusals
+pub mod RuledOut
+pub mod RuledOutSubmit
 pub mod Settled
 pub mod SlipsTold
 pub mod Submitted

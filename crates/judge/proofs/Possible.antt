@@ -57,7 +57,7 @@ reference-stands Camt050 x is = subst (λ (y : Identifier). sameIdentifier y noI
 reference-stands Pacs028 x is = identifier-fits x is
 
 -- no message is a set
-no-set-kind : (kind : Kind) → eqb (kindNumber kind) setKind ≡ false
+pub no-set-kind : (kind : Kind) → eqb (kindNumber kind) setKind ≡ false
 unfolding kindNumber
 no-set-kind Pacs008 = refl
 no-set-kind Camt050 = refl

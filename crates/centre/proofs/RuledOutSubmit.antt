@@ -1,0 +1,199 @@
+-- What the contract of submit rules out: that it refuses by 12 a message that fails no check, that it is done without a step, and that the slip it
+-- writes has another step number than the step. Slips whose values fit their fields have the same five bytes only where they are the same.
+-- Assumes nothing.
+use mathlib.Core.Path.{_≡_, refl, sym, ap, _∙_}
+use mathlib.Core.Bool.{Bool, true, false, _&&_, _||_, not, cond, false≢true}
+use mathlib.Core.List.{List, [], _∷_, _++_}
+use Prim.Native.Nat.{ℕ, suc, _+_, _≤_, _<_, _^_}
+use native.Mathlib.Omega.{arith}
+use native.Mathlib.Numerals.{add-one}
+use lib.Dec.{leb, ltb, eqb}
+use lib.ListN.{length, getD, take, drop}
+use borrow.Author.Tests.{eqb-false, ltb-false, not-false}
+use Rattle.shape.specs.Dates.{isDate}
+use Rattle.shape.proofs.Bits.{Small, cut-joined, joined-cut, joined-small}
+use Rattle.shape.proofs.Tests.{and-right}
+use Rattle.slip.specs.declared.Slip.{Slip}
+use Rattle.slip.specs.Meaning.{steps, isSlip}
+use Rattle.slip.specs.Image.{fieldsOf, byteWidths, values, slipNumber, image, slipIn, slipOf as slipRead}
+use Rattle.slip.specs.Answers.{canWrite}
+use Rattle.slip.proofs.Small.{slip-small}
+use Rattle.message.specs.declared.Message.{Message}
+use Rattle.message.specs.declared.Answer.{Answer}
+use Rattle.message.specs.declared.Answer.the-variants.{IllFormed, BadField, Good}
+use Rattle.message.specs.Received.{numberOf, receivedOf}
+use Rattle.directory.specs.declared.Participant.{Participant}
+use Rattle.directory.specs.Directory.{codeMost, isFit}
+use Rattle.layout.specs.declared.rows.Step.{Step}
+use Rattle.layout.specs.Seat.{headOf, seatOf, withSeat}
+use Rattle.seat.specs.Working.{stepped}
+use Rattle.seat.specs.Fit.{roomFits}
+use Rattle.judge.specs.declared.case.Case.{Case}
+use Rattle.judge.specs.declared.outcome.Outcome.{Outcome}
+use Rattle.judge.specs.Case.{caseOf}
+use Rattle.judge.specs.Rows.{askedAfter}
+use Rattle.judge.specs.Verdict.{verdict, endOf, outcome, stepMade}
+use Rattle.centre.specs.declared.Answer.the-variants.{Done, NotTaken}
+use Rattle.centre.specs.declared.Ticket.{Ticket}
+use Rattle.centre.specs.Answers.{Told, told, done, refused, refusedWith, isDone}
+use Rattle.centre.specs.Calls.{ticketBad}
+use Rattle.centre.specs.Submit.{verdictOn, notTaken, stepOn, slipOf, submitTold, submitAfter, submitSlip}
+use Rattle.centre.proofs.First.{behind-done}
+use Rattle.centre.proofs.Judged.{slip-asks}
+use Rattle.centre.proofs.Passes.{AllPass, all-passed, step-counted}
+use Rattle.centre.proofs.Submitted.{Passed, can-judge, ticket-seat}
+
+-- what a slip says can be read back from its bytes where each value fits its field
+number-read : (f : Slip) → Small (fieldsOf f) → slipIn (slipNumber f) ≡ f
+unfolding slipIn slipNumber fieldsOf
+number-read f small = ap (λ (fs : List (ℕ × ℕ)). slipFrom (values fs)) (cut-joined 0 (fieldsOf f) small)
+  where
+    slipFrom : List ℕ → Slip
+    slipFrom v = record { kind = getD v 0 0; status = getD v 1 0; check = getD v 2 0; seat = getD v 3 0; opening = getD v 4 0; step = getD v 5 0 }
+
+number-low : (f : Slip) → Small (fieldsOf f) → slipNumber f < 2 ^ 40
+unfolding slipNumber fieldsOf
+number-low f small = joined-small (fieldsOf f) small
+
+bytes-read : (f : Slip) → Small (fieldsOf f) → slipRead (image f) ≡ f
+unfolding slipRead image
+bytes-read f small = ap slipIn (joined-cut byteWidths (slipNumber f) (number-low f small)) ∙ number-read f small
+
+-- the bytes of a slip are the first five of the buffer
+image-first : (f : Slip) (rest : List ℕ) → take 5 (image f ++ rest) ≡ image f
+unfolding image
+image-first f rest = refl
+
+-- the slip of a step with another number: its values fit their fields too
+other-small : (ticket : Ticket) (m n : ℕ) (x : Step) → Small (fieldsOf (slipOf ticket m x)) → n ≤ steps → Small (fieldsOf (slipOf ticket n x))
+unfolding fieldsOf slipOf
+other-small ticket m n x q low =
+    (q .0, (q .1 .0, (q .1 .1 .0, (q .1 .1 .1 .0, (q .1 .1 .1 .1 .0, (omega (arith, low), tt))))))
+
+-- two slips of a step with the same bytes have the same number
+step-number : (ticket : Ticket) (n : ℕ) (x : Step) → slipOf ticket n x .step ≡ n
+unfolding slipOf
+step-number ticket n x = refl
+
+same-number : (ticket : Ticket) (m n : ℕ) (x : Step) (rest : List ℕ) → isSlip (slipOf ticket m x) ≡ true → n ≤ steps
+    → image (slipOf ticket n x) ++ rest ≡ image (slipOf ticket m x) ++ rest → n ≡ m
+same-number ticket m n x rest good low e =
+    let f : Slip = slipOf ticket n x in
+    let g : Slip = slipOf ticket m x in
+    let small : Small (fieldsOf g) = slip-small g good in
+    let same : image f ≡ image g = sym (image-first f rest) ∙ ap (λ (t : List ℕ). take 5 t) e ∙ image-first g rest in
+    let whole : f ≡ g = sym (bytes-read f (other-small ticket m n x small low)) ∙ ap slipRead same ∙ bytes-read g small in
+    sym (step-number ticket n x) ∙ ap (λ (z : Slip). z .step) whole ∙ step-number ticket m x
+
+-- an answer that is neither 7 nor 8 is a message
+good-message : (a : Answer) → eqb (numberOf a .0) 7 ≡ false → eqb (numberOf a .0) 8 ≡ false → ((m : Message) → a ≡ Good m → ⊥) → ⊥
+good-message (IllFormed place) p q f = false≢true (sym p)
+good-message (BadField number) p q f = false≢true (sym q)
+good-message (Good m) p q f = f m refl
+
+module _ (dir : List Participant) (ticket : Ticket) (sender today : ℕ) (sheet slip room : List ℕ) where
+  abbrev seatHere : List ℕ
+  seatHere = seatOf room (ticket .seat)
+
+  abbrev answerHere : Answer
+  answerHere = receivedOf sheet .answer
+
+  -- the table but for its last line, and with it
+  abbrev submitTests : List (Bool × Told) → List (Bool × Told)
+  submitTests rest =
+      (not (roomFits room), refused 1)
+      ∷ (not (isFit dir), refused 2)
+      ∷ (ticketBad ticket room, refused 3)
+      ∷ (not (leb sender codeMost && isDate today), refused 6)
+      ∷ (ltb (length slip) 5, refused 11)
+      ∷ (eqb (headOf seatHere .steps) steps, refused 9)
+      ∷ (eqb (numberOf answerHere .0) 7, refusedWith 7 (numberOf answerHere .1))
+      ∷ (eqb (numberOf answerHere .0) 8, refusedWith 8 (numberOf answerHere .1))
+      ∷ rest
+
+  abbrev failed : ℕ
+  failed = verdictOn dir sender today answerHere seatHere
+
+  pub rejects-all : verdictOn dir sender today (receivedOf sheet .answer) (seatOf room (ticket .seat)) ≡ 0
+      → (k : ℕ) → told (NotTaken k) ≡ submitTold dir ticket sender today sheet slip room → ⊥
+  unfolding told submitTold notTaken
+  rejects-all h k e =
+      let last = all-passed (submitTests []) (cond (notTaken failed) (refusedWith 12 failed) (done [])) (told (NotTaken k)) refl e .1 in
+      let over : told (NotTaken k) ≡ done [] = rw h at last in
+      let none : _≡_ {A = ℕ} 12 0 = ap (λ (t : Told). t .number) over in
+      omega arith
+
+  module _ (e : told Done ≡ submitTold dir ticket sender today sheet slip room) where
+    tests : AllPass (submitTests ((notTaken failed, refusedWith 12 failed) ∷ []))
+    unfolding told submitTold
+    tests = all-passed (submitTests ((notTaken failed, refusedWith 12 failed) ∷ [])) (done []) (told Done) refl e .0
+
+    fit : roomFits room ≡ true
+    fit = not-false (roomFits room) (tests .0)
+
+    over : isDone (submitTold dir ticket sender today sheet slip room) ≡ true
+    unfolding told isDone
+    over = ap isDone (sym e)
+
+    submit-made : submitAfter dir ticket sender today sheet slip room
+        ≡ withSeat room (ticket .seat) (stepped (stepOn dir sender today answerHere seatHere) seatHere)
+    unfolding submitAfter
+    submit-made =
+        behind-done (submitTold dir ticket sender today sheet slip room)
+        (withSeat room (ticket .seat) (stepped (stepOn dir sender today answerHere seatHere) seatHere)) room over
+
+    pub writes-nothing : room ≡ submitAfter dir ticket sender today sheet slip room → ⊥
+    writes-nothing same =
+        step-counted room (ticket .seat) (stepOn dir sender today answerHere seatHere) fit (ticket-seat ticket room (tests .1 .1 .0))
+        (same ∙ submit-made)
+
+    slip-made : submitSlip dir ticket sender today sheet slip room
+        ≡ image (slipOf ticket (suc (headOf seatHere .steps)) (stepOn dir sender today answerHere seatHere)) ++ drop 5 slip
+    unfolding submitSlip
+    slip-made =
+        behind-done (submitTold dir ticket sender today sheet slip room)
+        (image (slipOf ticket (suc (headOf seatHere .steps)) (stepOn dir sender today answerHere seatHere)) ++ drop 5 slip) slip over
+
+    all-right : Passed dir ticket sender today slip room
+    all-right = record {
+      room-fit = fit;
+      directory-fit = not-false (isFit dir) (tests .1 .0);
+      ticket-right = tests .1 .1 .0;
+      numbers-right = not-false (leb sender codeMost && isDate today) (tests .1 .1 .1 .0);
+      slip-long = ltb-false (length slip) 5 (tests .1 .1 .1 .1 .0);
+      steps-left = eqb-false (headOf seatHere .steps) steps (tests .1 .1 .1 .1 .1 .0);
+    }
+
+    -- the right slip is a slip
+    module _ (m : Message) (f : answerHere ≡ Good m) where
+      abbrev caseHere : Case
+      caseHere = caseOf dir sender today m
+
+      not-refused : (eqb (verdict caseHere seatHere) 1 || eqb (verdict caseHere seatHere) 2) ≡ false
+      unfolding notTaken verdictOn
+      not-refused = rw f at (tests .1 .1 .1 .1 .1 .1 .1 .1 .0)
+
+      can-write : canWrite (slipOf ticket (headOf seatHere .steps + 1) (stepMade caseHere (outcome caseHere seatHere))) slip ≡ true
+      unfolding outcome
+      can-write =
+          let c : Case = caseHere in
+          let s : List ℕ = seatHere in
+          let can = can-judge all-right sheet m f c refl s refl in
+          let o : Outcome = endOf (c .message .kind) (verdict c s) (askedAfter c s) in
+          slip-asks ticket c s slip (verdict c s) refl not-refused o refl (stepMade c o) refl (headOf s) refl (can .0) (can .1) (can .3) (can .5)
+          (can .2) (can .4)
+
+      right-slip : isSlip (slipOf ticket (suc (headOf seatHere .steps)) (stepOn dir sender today answerHere seatHere)) ≡ true
+      unfolding canWrite stepOn
+      right-slip =
+          rw (f, ← add-one (headOf seatHere .steps))
+          (and-right (leb 5 (length slip)) (isSlip (slipOf ticket (headOf seatHere .steps + 1) (stepMade caseHere (outcome caseHere seatHere)))) can-write)
+
+    pub invented-step-number : (n : ℕ) → (n ≡ suc (headOf seatHere .steps) → ⊥)
+        → image (slipOf ticket n (stepOn dir sender today answerHere seatHere)) ++ drop 5 slip ≡ submitSlip dir ticket sender today sheet slip room
+        → n ≤ steps → ⊥
+    invented-step-number n h written low =
+        good-message answerHere (tests .1 .1 .1 .1 .1 .1 .0) (tests .1 .1 .1 .1 .1 .1 .1 .0)
+        (λ (m : Message) (f : answerHere ≡ Good m).
+        h (same-number ticket (suc (headOf seatHere .steps)) n (stepOn dir sender today answerHere seatHere) (drop 5 slip) (right-slip m f) low
+        (written ∙ slip-made)))

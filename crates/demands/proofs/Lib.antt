@@ -1,0 +1,17 @@
+pub mod Decided
+pub mod Deeds
+pub mod DoneCalls
+pub mod Firsts
+pub mod Heard
+pub mod Heeded
+pub mod InSeat
+pub mod Money
+pub mod Movement
+pub mod OwnSeat
+pub mod Refused
+pub mod SeatKept
+pub mod SeatLaws
+pub mod Slips
+pub mod Stays
+pub mod Tables
+pub mod Taken

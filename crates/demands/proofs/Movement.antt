@@ -1,0 +1,102 @@
+-- What the step of a message does to an account: nothing where the message is not carried out; where it is, the movement, which is one account's
+-- turnover where both sides are one account, else a debit of the one and a credit of the other.
+-- Assumes nothing.
+use mathlib.Core.Path.{_≡_, refl, sym, ap, _∙_}
+use mathlib.Core.Bool.{Bool, true, false, _&&_, cond, false≢true}
+use Prim.Native.Nat.{ℕ, _≤_}
+use native.Mathlib.Omega.{arith}
+use lib.Dec.{eqb}
+use borrow.Author.Tests.{eqb-true, eqb-false, eq-eqb, ne-eqb}
+use Rattle.shape.specs.declared.value.Value.the-variants.{Of}
+use Rattle.shape.proofs.Tests.{and-left, and-right}
+use Rattle.table.specs.declared.Kind.{Kind}
+use Rattle.table.specs.declared.Kind.the-variants.{Pacs008, Camt050, Pacs028}
+use Rattle.slip.specs.Meaning.{kindNumber}
+use Rattle.layout.specs.declared.rows.Account.{Account}
+use Rattle.layout.specs.declared.rows.Step.{Step}
+use Rattle.seat.specs.Steps.{setKind, isKind}
+use Rattle.seat.specs.Working.{debited, credited, turned}
+use Rattle.seat.proofs.Changed.{hit, after}
+use Rattle.judge.specs.declared.case.Case.{Case}
+use Rattle.judge.specs.declared.outcome.Outcome.{Outcome}
+use Rattle.judge.specs.Values.{orZero}
+use Rattle.judge.specs.Verdict.{carried, stepMade}
+use Rattle.judge.proofs.Possible.{no-set-kind}
+use Rattle.demands.specs.Messages.{behindMove}
+
+-- numbers compared either way
+either-way : (a b : ℕ) → eqb a b ≡ eqb b a
+either-way a b = go (eqb a b) refl
+  where
+    go : (t : Bool) → eqb a b ≡ t → t ≡ eqb b a
+    go true e = sym (eq-eqb b a (sym (eqb-true a b e)))
+    go false e = sym (ne-eqb b a (λ (same : b ≡ a). eqb-false a b e (sym same)))
+
+-- a movement by its sides: the same account, or two
+by-sides : (t u v : Bool) (n : ℕ) (a : Account) → (t ≡ true → u ≡ v) → (t ≡ false → (u && v) ≡ true → ⊥)
+    → cond t (cond u (turned n a) a) (cond v (credited n (cond u (debited n a) a)) (cond u (debited n a) a))
+    ≡ cond (u && v) (turned n a) (cond u (debited n a) (cond v (credited n a) a))
+by-sides true true true n a one two = refl
+by-sides true true false n a one two = absurd (false≢true (sym (one refl)))
+by-sides true false true n a one two = absurd (false≢true (one refl))
+by-sides true false false n a one two = refl
+by-sides false true true n a one two = absurd (two refl refl)
+by-sides false true false n a one two = refl
+by-sides false false true n a one two = refl
+by-sides false false false n a one two = refl
+
+move-behind : (d e n i : ℕ) (a : Account)
+    → cond (eqb d e) (hit d i (turned n) a) (hit e i (credited n) (hit d i (debited n) a)) ≡ behindMove d e n i a
+move-behind d e n i a =
+    rw (either-way d i, either-way e i)
+    (by-sides (eqb d e) (eqb i d) (eqb i e) n a
+    (λ (q : eqb d e ≡ true). ap (eqb i) (eqb-true d e q))
+    (λ (q : eqb d e ≡ false) (b : (eqb i d && eqb i e) ≡ true).
+    eqb-false d e q (sym (eqb-true i d (and-left (eqb i d) (eqb i e) b)) ∙ eqb-true i e (and-right (eqb i d) (eqb i e) b))))
+
+-- the same of a step that is no set
+moves-nothing : (x : Step) (i : ℕ) (a : Account) → isKind setKind x ≡ false → x .amount ≡ 0 → after x i a ≡ a
+unfolding after
+moves-nothing x i a k n = rw (k, n)
+
+moves-amount : (x : Step) (i : ℕ) (a : Account) → isKind setKind x ≡ false → 1 ≤ x .amount
+    → after x i a ≡ behindMove (x .debit) (x .credit) (x .amount) i a
+unfolding after
+moves-amount x i a k n =
+    rw (k, ne-eqb (x .amount) 0 (λ (z : x .amount ≡ 0). omega arith)) (move-behind (x .debit) (x .credit) (x .amount) i a)
+
+module _ (c : Case) (o : Outcome) where
+  -- not carried out
+  rests-amount : carried (c .message .kind) o ≡ false → stepMade c o .amount ≡ 0
+  unfolding stepMade
+  rests-amount e = rw e
+
+  is-no-set : isKind setKind (stepMade c o) ≡ false
+  unfolding stepMade
+  is-no-set = no-set-kind (c .message .kind)
+
+  pub rests : carried (c .message .kind) o ≡ false → (i : ℕ) (a : Account) → after (stepMade c o) i a ≡ a
+  rests e i a = moves-nothing (stepMade c o) i a is-no-set (rests-amount e)
+
+  -- carried out between two accounts
+  module _ (e : carried (c .message .kind) o ≡ true) (debit credit amount : ℕ) (from : c .movement .debit ≡ Of debit)
+      (to : c .movement .credit ≡ Of credit) (sum : c .movement .amount ≡ amount) where
+    debit-is : stepMade c o .debit ≡ debit
+    unfolding stepMade orZero
+    debit-is = rw (e, from)
+
+    credit-is : stepMade c o .credit ≡ credit
+    unfolding stepMade orZero
+    credit-is = rw (e, to)
+
+    amount-is : stepMade c o .amount ≡ amount
+    unfolding stepMade
+    amount-is = rw (e, sum)
+
+    pub moves : 1 ≤ amount → (i : ℕ) (a : Account) → after (stepMade c o) i a ≡ behindMove debit credit amount i a
+    moves least i a =
+        let here : stepMade c o .amount ≡ amount = amount-is in
+        moves-amount (stepMade c o) i a is-no-set (omega arith)
+        ∙ ap (λ (n : ℕ). behindMove n (stepMade c o .credit) (stepMade c o .amount) i a) debit-is
+        ∙ ap (λ (n : ℕ). behindMove debit n (stepMade c o .amount) i a) credit-is
+        ∙ ap (λ (n : ℕ). behindMove debit credit n i a) amount-is

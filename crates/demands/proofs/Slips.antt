@@ -1,0 +1,81 @@
+-- Slips written are read back the same, and no other bytes are read as a slip: `slip` has both of its own answers, and the room's answers say the
+-- same by their number.
+-- Assumes nothing.
+use mathlib.Core.Path.{_≡_, refl, sym, ap, _∙_}
+use mathlib.Core.Bool.{Bool, true, false, not, cond}
+use mathlib.Core.List.{List, [], _++_}
+use Prim.Native.Nat.{ℕ}
+use native.Mathlib.Omega.{arith}
+use lib.Dec.{leb, ltb, eqb}
+use lib.ListN.{length, take, drop}
+use borrow.Author.Tests.{eqb-true}
+use Rattle.shape.specs.Bytes.{every}
+use Rattle.shape.proofs.Tests.{and-left, and-right}
+use Rattle.slip.specs.declared.Slip.{Slip}
+use Rattle.slip.specs.Meaning.{isSlip}
+use Rattle.slip.specs.Image.{image, slipOf}
+use Rattle.slip.specs.Answers.{canWrite, writeAfter, holdsSlip}
+use Rattle.slip.proofs.Exact.{image-back, bytes-back}
+use Rattle.centre.specs.Answers.{done, refused, slipValues}
+use Rattle.centre.specs.Slips.{writeTold, readTold}
+use Rattle.demands.specs.Messages.{Slips}
+
+-- a call that knows one refusal is done where its test holds
+one-row : (t : Bool) (values : List ℕ) → cond (not t) (refused 11) (done values) .number ≡ 0 → t ≡ true
+one-row true values e = refl
+one-row false values e = absurd (omega (arith, e))
+
+written-can : (slip : Slip) (buffer : List ℕ) → writeTold slip buffer .number ≡ 0 → canWrite slip buffer ≡ true
+unfolding writeTold
+written-can slip buffer e = one-row (canWrite slip buffer) [] e
+
+read-holds : (bytes : List ℕ) → readTold bytes .number ≡ 0 → holdsSlip bytes ≡ true
+unfolding readTold
+read-holds bytes e = one-row (holdsSlip bytes) (slipValues (slipOf bytes)) e
+
+read-done : (bytes : List ℕ) → holdsSlip bytes ≡ true → readTold bytes ≡ done (slipValues (slipOf bytes))
+unfolding readTold
+read-done bytes e = rw e
+
+-- the first five bytes of what is left are those of the slip
+five-first : (slip : Slip) (rest : List ℕ) → take 5 (image slip ++ rest) ≡ image slip
+unfolding image
+five-first slip rest = refl
+
+written-image : (slip : Slip) (buffer : List ℕ) → canWrite slip buffer ≡ true → take 5 (writeAfter slip buffer) ≡ image slip
+unfolding writeAfter
+written-image slip buffer e = rw e (five-first slip (drop 5 buffer))
+
+written-sound : (slip : Slip) (buffer : List ℕ) → canWrite slip buffer ≡ true → isSlip slip ≡ true
+unfolding canWrite
+written-sound slip buffer e = and-right (leb 5 (length buffer)) (isSlip slip) e
+
+image-holds : (slip : Slip) → isSlip slip ≡ true → holdsSlip (image slip) ≡ true
+unfolding holdsSlip image
+image-holds slip e = rw (image-back slip e, e)
+
+-- bytes that hold a slip
+holds-parts : (bytes : List ℕ) → holdsSlip bytes ≡ true → (length bytes ≡ 5) × (isSlip (slipOf bytes) ≡ true)
+unfolding holdsSlip
+holds-parts bytes e = (
+  eqb-true (length bytes) 5 (and-left (eqb (length bytes) 5) (isSlip (slipOf bytes)) e),
+  and-right (eqb (length bytes) 5) (isSlip (slipOf bytes)) e,
+)
+
+pub slips : Slips
+slips = record {
+  back = λ (slip : Slip) (buffer : List ℕ) (e : writeTold slip buffer .number ≡ 0).
+      let can : canWrite slip buffer ≡ true = written-can slip buffer e in
+      let sound : isSlip slip ≡ true = written-sound slip buffer can in
+      ap readTold (written-image slip buffer can)
+      ∙ read-done (image slip) (image-holds slip sound)
+      ∙ ap (λ (x : Slip). done (slipValues x)) (image-back slip sound);
+  only = λ (bytes : List ℕ) (e : readTold bytes .number ≡ 0) (small : every (λ (b : ℕ). ltb b 256) bytes ≡ true).
+      let holds : holdsSlip bytes ≡ true = read-holds bytes e in
+      record {
+        slip = slipOf bytes;
+        sound = holds-parts bytes holds .1;
+        values = read-done bytes holds;
+        same = sym (bytes-back bytes small (holds-parts bytes holds .0));
+      };
+}

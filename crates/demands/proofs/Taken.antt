@@ -1,0 +1,193 @@
+-- A message that is heard is answered by its check alone: refused by 12 with nothing changed, or done, and then it is one step more in its seat, which
+-- the seat can take, with its slip in the buffer.
+-- Assumes nothing.
+use mathlib.Core.Path.{_≡_, refl, sym, ap, subst, _∙_}
+use mathlib.Core.Bool.{true, false, false≢true}
+use mathlib.Core.List.{List, [], _++_}
+use Prim.Native.Nat.{ℕ, suc, _≤_, _<_}
+use native.Mathlib.Omega.{arith}
+use lib.Dec.{leb, eqb}
+use lib.ListN.{length, drop}
+use borrow.Author.Tests.{leb-true, eq-eqb, eqb-false}
+use Rattle.shape.specs.Dates.{isDate}
+use Rattle.shape.proofs.Tests.{and-left, or-left, or-right}
+use Rattle.slip.specs.Meaning.{seats, steps}
+use Rattle.slip.specs.Image.{image}
+use Rattle.message.specs.declared.Message.{Message}
+use Rattle.message.specs.declared.Answer.the-variants.{Good}
+use Rattle.message.specs.Received.{receivedOf}
+use Rattle.directory.specs.declared.Participant.{Participant}
+use Rattle.directory.specs.Directory.{codeMost}
+use Rattle.layout.specs.declared.rows.Head.{Head}
+use Rattle.layout.specs.declared.rows.Step.{Step}
+use Rattle.layout.specs.Seat.{accounts, seatLong, headOf, accountOf, stepOf, seatOf, withSeat}
+use Rattle.layout.proofs.Rooms.{seat-got}
+use Rattle.seat.specs.Steps.{stepFits}
+use Rattle.seat.specs.Working.{stepped, covered, possible}
+use Rattle.seat.specs.Fit.{openFits, seatFits}
+use Rattle.seat.proofs.Answered.{ticket-good}
+use Rattle.seat.proofs.Backed.{possible-fits}
+use Rattle.seat.proofs.Forward.{open-fits}
+use Rattle.seat.proofs.Kept.{fit-long, fit-open}
+use Rattle.seat.proofs.Rooms.{room-long, room-seat}
+use Rattle.seat.proofs.Changed.{after, stepped-length, stepped-head, stepped-last, stepped-account}
+use Rattle.judge.specs.declared.case.Case.{Case}
+use Rattle.judge.specs.declared.outcome.Outcome.{Outcome}
+use Rattle.judge.specs.Case.{caseOf, Arises}
+use Rattle.judge.specs.Verdict.{verdict, outcome, stepMade}
+use Rattle.judge.proofs.Possible.{judged-possible}
+use Rattle.centre.specs.declared.Ticket.{Ticket}
+use Rattle.centre.specs.Answers.{done, refusedWith, isDone}
+use Rattle.centre.specs.Submit.{verdictOn, notTaken, stepOn, slipOf, judgedTold, submitTold, submitAfter, submitSlip}
+use Rattle.centre.proofs.First.{behind-done, behind-refused}
+use Rattle.centre.proofs.Judged.{not-one, not-two}
+use Rattle.demands.specs.Messages.{Recorded, slipOf as slipBehind}
+use Rattle.demands.proofs.Heard.{Facts, seat-there, seat-own}
+
+-- an answer that is done, and one that is refused by 12
+done-done : isDone (done []) ≡ true
+unfolding isDone
+done-done = refl
+
+refused-not : (check : ℕ) → isDone (refusedWith 12 check) ≡ false
+unfolding isDone
+refused-not check = refl
+
+module _ (dir : List Participant) (ticket : Ticket) (sender today : ℕ) (sheet slip room : List ℕ)
+    (f : Facts dir ticket sender today sheet slip room) (m : Message) (good : receivedOf sheet .answer ≡ Good m) where
+  abbrev pub case : Case
+  case = caseOf dir sender today m
+
+  abbrev pub place : List ℕ
+  place = seatOf room (ticket .seat)
+
+  abbrev pub made : Step
+  made = stepMade case (outcome case place)
+
+  -- the answer is that of the message judged in its seat
+  told-judged : submitTold dir ticket sender today sheet slip room ≡ judgedTold case place
+  unfolding submitTold judgedTold verdictOn
+  told-judged = rw (f .fit, f .listed, f .ticketed, f .named, f .long, f .free, good)
+
+  step-made : stepOn dir sender today (receivedOf sheet .answer) place ≡ made
+  unfolding stepOn
+  step-made = rw good
+
+  -- the case comes up, in a seat that is open and fits
+  pub arises : Arises case
+  unfolding caseOf
+  arises = record {
+    sheet = sheet;
+    dir = dir;
+    good = good;
+    fit = f .listed;
+    code = leb-true sender codeMost (and-left (leb sender codeMost) (isDate today) (f .named));
+    looked = refl;
+  }
+
+  seat-low : ticket .seat < seats
+  seat-low = seat-there ticket room (f .ticketed)
+
+  seat-fits : seatFits place ≡ true
+  seat-fits = room-seat room (f .fit) (ticket .seat) seat-low
+
+  pub seat-long : length place ≡ seatLong
+  seat-long = fit-long place seat-fits
+
+  seat-open : openFits place ≡ true
+  seat-open = fit-open place seat-fits (ticket-good (ticket .opening) place (seat-own ticket room (f .ticketed)) .0)
+
+  pub steps-low : headOf place .steps < steps
+  steps-low =
+      let most : headOf place .steps ≤ steps = open-fits place seat-open .count in
+      let left : headOf place .steps ≡ steps → ⊥ = eqb-false (headOf place .steps) steps (f .free) in
+      omega arith
+
+  -- refused by check 1 or 2: nothing changes
+  module _ (refuses : notTaken (verdict case place) ≡ true) where
+    told-refused : submitTold dir ticket sender today sheet slip room ≡ refusedWith 12 (verdict case place)
+    unfolding judgedTold
+    told-refused = told-judged ∙ rw refuses
+
+    over : isDone (submitTold dir ticket sender today sheet slip room) ≡ false
+    over = ap isDone told-refused ∙ refused-not (verdict case place)
+
+    pub not-taken : (submitTold dir ticket sender today sheet slip room ≡ refusedWith 12 (verdict case place))
+        × (submitAfter dir ticket sender today sheet slip room ≡ room)
+        × (submitSlip dir ticket sender today sheet slip room ≡ slip)
+    unfolding submitAfter submitSlip
+    not-taken = (
+      told-refused,
+      behind-refused (submitTold dir ticket sender today sheet slip room)
+          (withSeat room (ticket .seat) (stepped (stepOn dir sender today (receivedOf sheet .answer) place) place)) room over,
+      behind-refused (submitTold dir ticket sender today sheet slip room)
+          (image (slipOf ticket (suc (headOf place .steps)) (stepOn dir sender today (receivedOf sheet .answer) place)) ++ drop 5 slip) slip over,
+    )
+
+  -- taken
+  module _ (takes : notTaken (verdict case place) ≡ false) where
+    pub told-done : submitTold dir ticket sender today sheet slip room ≡ done []
+    unfolding judgedTold
+    told-done = told-judged ∙ rw takes
+
+    finished : isDone (submitTold dir ticket sender today sheet slip room) ≡ true
+    finished = ap isDone told-done ∙ done-done
+
+    pub made-fits : stepFits made ≡ true
+    made-fits =
+        possible-fits made place
+        (judged-possible case place arises seat-long seat-open (not-one (verdict case place) takes) (not-two (verdict case place) takes))
+
+    room-behind : submitAfter dir ticket sender today sheet slip room ≡ withSeat room (ticket .seat) (stepped made place)
+    unfolding submitAfter
+    room-behind =
+        behind-done (submitTold dir ticket sender today sheet slip room)
+        (withSeat room (ticket .seat) (stepped (stepOn dir sender today (receivedOf sheet .answer) place) place)) room finished
+        ∙ ap (λ (x : Step). withSeat room (ticket .seat) (stepped x place)) step-made
+
+    -- the seat behind has that step more
+    pub seat-behind : seatOf (submitAfter dir ticket sender today sheet slip room) (ticket .seat) ≡ stepped made place
+    seat-behind =
+        ap (λ (r : List ℕ). seatOf r (ticket .seat)) room-behind
+        ∙ seat-got room (ticket .seat) (stepped made place) (room-long room (f .fit)) seat-low
+        (stepped-length made place seat-long made-fits steps-low)
+
+    pub account-behind : (i : ℕ) → i < accounts
+        → accountOf (seatOf (submitAfter dir ticket sender today sheet slip room) (ticket .seat)) i ≡ after made i (accountOf place i)
+    account-behind i h = ap (λ (s : List ℕ). accountOf s i) seat-behind ∙ stepped-account made place seat-long made-fits steps-low i h
+
+    slip-made : submitSlip dir ticket sender today sheet slip room
+        ≡ image (slipOf ticket (suc (headOf place .steps)) made) ++ drop 5 slip
+    unfolding submitSlip
+    slip-made =
+        behind-done (submitTold dir ticket sender today sheet slip room)
+        (image (slipOf ticket (suc (headOf place .steps)) (stepOn dir sender today (receivedOf sheet .answer) place)) ++ drop 5 slip) slip finished
+        ∙ ap (λ (x : Step). image (slipOf ticket (suc (headOf place .steps)) x) ++ drop 5 slip) step-made
+
+    slip-says : image (slipOf ticket (suc (headOf place .steps)) made) ++ drop 5 slip
+        ≡ slipBehind dir ticket sender today sheet slip room (m .kind) (outcome case place)
+    unfolding slipOf stepMade caseOf
+    slip-says = refl
+
+    count-behind : headOf (seatOf (submitAfter dir ticket sender today sheet slip room) (ticket .seat)) .steps ≡ suc (headOf place .steps)
+    count-behind =
+        ap (λ (s : List ℕ). headOf s .steps) seat-behind
+        ∙ ap (λ (h : Head). h .steps) (stepped-head made place seat-long made-fits steps-low)
+
+    step-behind : stepOf (seatOf (submitAfter dir ticket sender today sheet slip room) (ticket .seat)) (headOf place .steps) ≡ made
+    step-behind = ap (λ (s : List ℕ). stepOf s (headOf place .steps)) seat-behind ∙ stepped-last made place seat-long made-fits steps-low
+
+    -- it is recorded with its outcome
+    outcome-recorded : Recorded dir ticket sender today sheet slip room (m .kind) (outcome case place)
+    unfolding stepMade caseOf
+    outcome-recorded = record {
+      answered = told-done;
+      slipped = slip-made ∙ slip-says;
+      counted = count-behind;
+      kinded = ap (λ (x : Step). x .kind) step-behind;
+      ended = ap (λ (x : Step). x .status) step-behind;
+      checked = ap (λ (x : Step). x .check) step-behind;
+    }
+
+    pub recorded : (o : Outcome) → outcome case place ≡ o → Recorded dir ticket sender today sheet slip room (m .kind) o
+    recorded o e = subst (λ (x : Outcome). Recorded dir ticket sender today sheet slip room (m .kind) x) e outcome-recorded
