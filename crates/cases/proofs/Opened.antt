@@ -1,0 +1,104 @@
+-- All that a call of a room works with, opened: where `opened` unfolds, every definition does that a call comes to, crate by crate, and so a call
+-- whose arguments are written out computes to its answer.
+-- Assumes nothing.
+use Rattle.shape.specs.Bytes.{isText, isHex, isCapital, isVariant, isLetter, isDigit, isSmall, isDigitOrCapital}
+use Rattle.shape.specs.Dates.{timeOf, isLeap, timeNumber, daysIn, isDate, dayBefore, isTime}
+use Rattle.shape.specs.Fields.{kopecks, amountOf, isIdentifier, namesPacs008, isIban, systemOf, isAmount, currencyOf, accountOf as shapeAccountOf, threeBytes, messageCodeOf, codeOf}
+use Rattle.shape.specs.Numbers.{decimal, hexValue}
+use Rattle.shape.specs.Patterns.{timePattern, codePattern, messagePattern, sepPattern, accountPattern, currencyPattern, pacs008Pattern, aspPattern, ibanPattern, within, fits, uetrPattern}
+use Rattle.shape.specs.Stored.{identifierOf, sameUetr, fourFrom, identifierText, allBytes, groups, sevenFrom, isUetr, sameIdentifier, uetrOf}
+use Rattle.remainder.specs.Remainder.{isPlain, whole, remainderOf, written}
+use Rattle.table.specs.Checks.{orderOf}
+use Rattle.slip.specs.Answers.{writeAfter, canWrite, holdsSlip}
+use Rattle.slip.specs.Image.{slipOf as slipSlipOf, slipIn, slipNumber, image, fieldsOf as slipFieldsOf}
+use Rattle.slip.specs.Meaning.{says, isSlip, appears, endsWith, kindNumber, statusNumber}
+use Rattle.sheet.specs.Answer.{run, readingOf}
+use Rattle.sheet.specs.Grammar.{isNameByte}
+use Rattle.sheet.specs.Machine.{step}
+use Rattle.outline.specs.Paths.{samePath, charactersOf, standing, atDepth, sameName}
+use Rattle.outline.specs.Rows.{insideAt, rowsFrom, hasCcy, rowsOf as outlineRowsOf, textAt, ccyAt, nameEnd, nameAt, hasText}
+use Rattle.message.specs.Fields.{camt050Fields, pacs008Fields, pacs028Fields, fieldsOf as messageFieldsOf, byKind, bodyOf}
+use Rattle.message.specs.Good.{ccyFits, textFits, firstBad, hasShape, isGood, heldIn}
+use Rattle.message.specs.Message.{ccyIn, agentOf, messageFrom, startIn, lengthIn, nameOf, textIn, messageOf}
+use Rattle.message.specs.Received.{receivedFrom, kindNamed, receivedIn, receivedAs, kindOf, onlyKind, receivedOf, heldOf}
+use Rattle.directory.specs.Directory.{foundFrom, isFit, ownerUsed, found}
+use Rattle.layout.specs.Parts.{put, part}
+use Rattle.layout.specs.Rows.{accountRow, headRow, stepRow, stepIn, accountIn, headIn}
+use Rattle.layout.specs.Seat.{headOf, withStep, seatOf, accountOf as layoutAccountOf, withSeat, stepOf, withAccount, withHead}
+use Rattle.seat.specs.Calls.{noTicket, accountFound, sumsGood, pairGood, limitNumber, settingsOf, accountNamed}
+use Rattle.seat.specs.Fit.{seatFits, closedFits, closedSeat, openFits, openSeat, sumsOf, openAccounts, roomFits, sumsFrom, same}
+use Rattle.seat.specs.Journal.{earliest, leaves, firstIn}
+use Rattle.seat.specs.Limits.{availableBelow, turnoverAbove, blockedOut, blockedInto, turnoverShut}
+use Rattle.seat.specs.Steps.{stepFits, noSet, movementFits, noMovement, carriedOut, sameSettings, isStored, settingsFit, between, referenceFits, noMessage, messageFits, setFits, isStoredUetr}
+use Rattle.seat.specs.Working.{uneffect, stepped, worked, moved, possible, changed, covered, journalOf, effect, backed, unmoved, stepsFrom}
+use Rattle.judge.specs.Case.{movementOf, accountOn, creditOwner, debitOwner, caseOf}
+use Rattle.judge.specs.Rows.{isAsp, identifierRepeated, creditorNotInstant, creditorNotServed, debtorElsewhere, creditorElsewhere, instructingNotServing, debtorNotHryvnia, identifierBad, debtorAnothers, shows, creditBlocked, ibanWrong, accountAt, creditorNotHryvnia, debtorUnlisted, moneyShort, createdElsewhen, senderNotInstant, previousNotServing, originalDiffers, instructedNoBank, creditorNoProvider, uetrRepeated, askedAfter, amountForeign, originalUnknown, debitBlocked, senderNoOwner, currenciesDiffer, isSep, notFromSender, isThere, limitZero, senderIndirect, creditorAnothers, originalBad, senderUnlisted, digitsWrong, limitPassed, isOne, createdOn, differs}
+use Rattle.judge.specs.Values.{orZero, agree}
+use Rattle.judge.specs.Verdict.{toldOf, fails, stepMade, verdict, firstFailing, rowsOf as judgeRowsOf, carried, outcome, answered, endOf, transferred}
+use Rattle.centre.specs.Answers.{slipValues, isDone, behind}
+use Rattle.centre.specs.Calls.{backTold, closeTold, setIn, ticketBad, openAfter, readTold as centreReadTold, openTold, setAfter, backAfter, noSeat, setTold, closeAfter}
+use Rattle.centre.specs.Slips.{writeTold, readTold as centreSlipsReadTold}
+use Rattle.centre.specs.Submit.{stepOn, verdictOn, submitSlip, submitTold, notTaken, slipOf as centreSlipOf, submitAfter}
+use Rattle.demands.specs.Calls.{actSlip, callRoom, callTold, actRoom, actTold, callSlip}
+use Rattle.demands.specs.Seats.{answerOf}
+use Rattle.strike.specs.Strike.{events}
+
+unfoldable pub shape-opened : Unit {0}
+unfolding isText isHex isCapital isVariant isLetter isDigit isSmall isDigitOrCapital timeOf isLeap timeNumber daysIn isDate dayBefore isTime kopecks amountOf isIdentifier namesPacs008 isIban systemOf isAmount currencyOf shapeAccountOf threeBytes messageCodeOf codeOf decimal hexValue timePattern codePattern messagePattern sepPattern accountPattern currencyPattern pacs008Pattern aspPattern ibanPattern within fits uetrPattern identifierOf sameUetr fourFrom identifierText allBytes groups sevenFrom isUetr sameIdentifier uetrOf
+shape-opened = tt
+
+unfoldable pub remainder-opened : Unit {0}
+unfolding isPlain whole remainderOf written
+remainder-opened = tt
+
+unfoldable pub table-opened : Unit {0}
+unfolding orderOf
+table-opened = tt
+
+unfoldable pub slip-opened : Unit {0}
+unfolding writeAfter canWrite holdsSlip slipSlipOf slipIn slipNumber image slipFieldsOf says isSlip appears endsWith kindNumber statusNumber
+slip-opened = tt
+
+unfoldable pub sheet-opened : Unit {0}
+unfolding run readingOf isNameByte step
+sheet-opened = tt
+
+unfoldable pub outline-opened : Unit {0}
+unfolding samePath charactersOf standing atDepth sameName insideAt rowsFrom hasCcy outlineRowsOf textAt ccyAt nameEnd nameAt hasText
+outline-opened = tt
+
+unfoldable pub message-opened : Unit {0}
+unfolding camt050Fields pacs008Fields pacs028Fields messageFieldsOf byKind bodyOf ccyFits textFits firstBad hasShape isGood heldIn ccyIn agentOf messageFrom startIn lengthIn nameOf textIn messageOf receivedFrom kindNamed receivedIn receivedAs kindOf onlyKind receivedOf heldOf
+message-opened = tt
+
+unfoldable pub directory-opened : Unit {0}
+unfolding foundFrom isFit ownerUsed found
+directory-opened = tt
+
+unfoldable pub layout-opened : Unit {0}
+unfolding put part accountRow headRow stepRow stepIn accountIn headIn headOf withStep seatOf layoutAccountOf withSeat stepOf withAccount withHead
+layout-opened = tt
+
+unfoldable pub seat-opened : Unit {0}
+unfolding noTicket accountFound sumsGood pairGood limitNumber settingsOf accountNamed seatFits closedFits closedSeat openFits openSeat sumsOf openAccounts roomFits sumsFrom same earliest leaves firstIn availableBelow turnoverAbove blockedOut blockedInto turnoverShut stepFits noSet movementFits noMovement carriedOut sameSettings isStored settingsFit between referenceFits noMessage messageFits setFits isStoredUetr uneffect stepped worked moved possible changed covered journalOf effect backed unmoved stepsFrom
+seat-opened = tt
+
+unfoldable pub judge-opened : Unit {0}
+unfolding movementOf accountOn creditOwner debitOwner caseOf isAsp identifierRepeated creditorNotInstant creditorNotServed debtorElsewhere creditorElsewhere instructingNotServing debtorNotHryvnia identifierBad debtorAnothers shows creditBlocked ibanWrong accountAt creditorNotHryvnia debtorUnlisted moneyShort createdElsewhen senderNotInstant previousNotServing originalDiffers instructedNoBank creditorNoProvider uetrRepeated askedAfter amountForeign originalUnknown debitBlocked senderNoOwner currenciesDiffer isSep notFromSender isThere limitZero senderIndirect creditorAnothers originalBad senderUnlisted digitsWrong limitPassed isOne createdOn differs orZero agree toldOf fails stepMade verdict firstFailing judgeRowsOf carried outcome answered endOf transferred
+judge-opened = tt
+
+unfoldable pub centre-opened : Unit {0}
+unfolding slipValues isDone behind backTold closeTold setIn ticketBad openAfter centreReadTold openTold setAfter backAfter noSeat setTold closeAfter writeTold centreSlipsReadTold stepOn verdictOn submitSlip submitTold notTaken centreSlipOf submitAfter
+centre-opened = tt
+
+unfoldable pub demands-opened : Unit {0}
+unfolding actSlip callRoom callTold actRoom actTold callSlip answerOf
+demands-opened = tt
+
+unfoldable pub strike-opened : Unit {0}
+unfolding events
+strike-opened = tt
+
+unfoldable pub opened : Unit {0}
+unfolding shape-opened remainder-opened table-opened slip-opened sheet-opened outline-opened message-opened directory-opened layout-opened seat-opened judge-opened centre-opened demands-opened strike-opened
+opened = tt

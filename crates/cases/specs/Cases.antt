@@ -1,0 +1,240 @@
+-- The cases of document 01, "Cases proved together": one table, and one statement over it. A case is a list of calls, from a room that was laid
+-- out, each with its whole answer: number, detail and values, and the slip buffer behind it. The calls and their answers are those of the
+-- demands, and so of the contracts in `centre`; the statement is proved by working every call out (`proofs/Computed.antt`).
+-- Sums are in kopecks. Seat 3 is opened first in every case, with opening number 1, and every message comes on 2024-03-01.
+use mathlib.Core.Bool.{true, false}
+use mathlib.Core.List.{List, [], _∷_, _++_, map}
+use mathlib.Core.Path.{_≡_}
+use Prim.Native.Nat.{ℕ}
+use Prim.Native.String.{String}
+use lib.ListN.{replicate}
+use Rattle.shape.specs.Text.{bytes}
+use Rattle.table.specs.declared.Kind.{Kind}
+use Rattle.table.specs.declared.Kind.the-variants.{Pacs008, Camt050, Pacs028}
+use Rattle.slip.specs.declared.Slip.{Slip}
+use Rattle.slip.specs.declared.Status.{Status}
+use Rattle.slip.specs.declared.Status.the-variants.{Pdng, Accc, Rjct}
+use Rattle.slip.specs.Meaning.{kindNumber, statusNumber}
+use Rattle.slip.specs.Image.{image}
+use Rattle.directory.specs.declared.Participant.{Participant}
+use Rattle.directory.specs.declared.Kind.the-variants.{Owner, Direct, Indirect}
+use Rattle.seat.specs.declared.calls.Wish.{Wish}
+use Rattle.seat.specs.declared.calls.Limit.{Limit}
+use Rattle.seat.specs.declared.calls.Limit.the-variants.{Of, None}
+use Rattle.strike.specs.Strike.{events}
+use Rattle.centre.specs.declared.Ticket.{Ticket}
+use Rattle.centre.specs.Answers.{Told, done, refused, refusedWith}
+use Rattle.demands.specs.Calls.{Act, close, set, submit, takeBack, read, Call, opening, under, writing, reading}
+use Rattle.demands.specs.Seats.{newRoom, Answer, centre}
+use Rattle.cases.specs.Sheets.{camt050, pacs008, pacs028}
+
+-- two owners, an indirect branch of the first and a direct branch of the second, all instant
+abbrev pub directory : List Participant
+directory =
+    record { code = 300001; instant = true; kind = Owner }
+    ∷ record { code = 300002; instant = true; kind = Owner }
+    ∷ record { code = 300011; instant = true; kind = Indirect 300001 }
+    ∷ record { code = 300012; instant = true; kind = Direct 300002 }
+    ∷ []
+
+-- a call with its answer
+abbrev pub Line : Type 0
+Line = Call × Answer
+
+infix 70 _gives_
+abbrev pub _gives_ : Call → Answer → Line
+call gives answer = (call, answer)
+
+pub record Case : Type 0 where
+  pub calls : List Call
+  pub answers : List Answer
+
+-- the answers of calls that are lent no slip buffer: done, with values; refused
+abbrev pub values : List ℕ → Answer
+values numbers = (done numbers, [])
+
+abbrev pub refusal : ℕ → Answer
+refusal number = (refused number, [])
+
+-- seat 3 is opened with 500.00 and 100.00 for 300001, others are empty; it is the seat's first opening
+abbrev pub begin : Call
+begin = opening 3 (50000 ∷ 10000 ∷ 0 ∷ 0 ∷ 0 ∷ 0 ∷ 0 ∷ 0 ∷ [])
+
+abbrev pub ticket : Ticket
+ticket = record { seat = 3; opening = 1 }
+
+-- a case: these calls behind that opening
+abbrev pub fromStart : List Line → Case
+fromStart lines = record {
+  calls = begin ∷ map (λ (line : Line). line .0) lines;
+  answers = values (1 ∷ []) ∷ map (λ (line : Line). line .1) lines;
+}
+
+-- a message comes with a slip buffer of five bytes. It becomes a step, and the slip says which and how it ended; or it is refused, and the
+-- buffer stays
+abbrev pub buffer : List ℕ
+buffer = replicate 5 0xFF
+
+abbrev pub from : ℕ → List ℕ → Call
+from sender sheet = under ticket (submit sender 20240301 sheet buffer)
+
+abbrev pub slip : Kind → Status → ℕ → ℕ → Slip
+slip kind status check step = record {
+  kind = kindNumber kind;
+  status = statusNumber status;
+  check = check;
+  seat = 3;
+  opening = 1;
+  step = step;
+}
+
+abbrev pub slipped : Kind → Status → ℕ → ℕ → Answer
+slipped kind status check step = (done [], image (slip kind status check step))
+
+abbrev pub unslipped : Told → Answer
+unslipped told = (told, buffer)
+
+-- the time at which most messages are created
+abbrev pub morning : String
+morning = "2024-03-01T09:30:00"
+
+-- 300001 sends a camt.050 with this digit over this amount, from account 1 to account 2; carried out as step n; rejected by a check as step n
+abbrev pub moves : String → String → Call
+moves digit amount = from 300001 (camt050 "300001" digit morning amount)
+
+abbrev pub accepted : ℕ → Answer
+accepted n = slipped Camt050 Accc 0 n
+
+abbrev pub rejected : ℕ → ℕ → Answer
+rejected check n = slipped Camt050 Rjct check n
+
+-- account 1 or 2 of 300001 is read: opening sum, balance, turnover, blocks outgoing and incoming, LTK, LPO
+abbrev pub reads : ℕ → Call
+reads number = under ticket (read 300001 number)
+
+-- account 1 of 300001 is set: no blocks, this LTK, this LPO
+abbrev pub wish : ℕ → Limit → Wish
+wish ltk lpo = record { out = false; into = false; ltk = ltk; lpo = lpo }
+
+abbrev pub sets : ℕ → Limit → Call
+sets ltk lpo = under ticket (set 300001 1 (wish ltk lpo))
+
+-- 1. All 500.00 of account 1 can be moved, and then there are 0.00 and 600.00. One kopeck more is too much
+abbrev pub case1 : List Case
+case1 =
+    fromStart (
+    moves "1" "500.00" gives accepted 1
+    ∷ reads 1 gives values (50000 ∷ 0 ∷ 50000 ∷ 0 ∷ 0 ∷ 0 ∷ 0 ∷ [])
+    ∷ reads 2 gives values (10000 ∷ 60000 ∷ 0 ∷ 0 ∷ 0 ∷ 0 ∷ 0 ∷ [])
+    ∷ [])
+    ∷ fromStart (moves "1" "500.01" gives rejected 22 1 ∷ [])
+    ∷ []
+
+-- 2. With an LTK of 100.00 there are 400.00 to move, and not a kopeck more
+abbrev pub case2 : List Case
+case2 =
+    fromStart (sets 10000 None gives values [] ∷ moves "1" "400.00" gives accepted 2 ∷ [])
+    ∷ fromStart (sets 10000 None gives values [] ∷ moves "1" "400.01" gives rejected 22 2 ∷ [])
+    ∷ []
+
+-- 3. With an LPO of 400.00 that much can be moved, and behind it nothing. With an LPO of 0 nothing at all, by a check of its own
+abbrev pub case3 : List Case
+case3 =
+    fromStart (
+    sets 0 (Of 40000) gives values []
+    ∷ moves "1" "400.00" gives accepted 2
+    ∷ moves "2" "0.01" gives rejected 23 3
+    ∷ [])
+    ∷ fromStart (sets 0 (Of 0) gives values [] ∷ moves "1" "0.01" gives rejected 24 2 ∷ [])
+    ∷ []
+
+-- 4. A direct branch is no owner: its camt.050 is rejected. An indirect branch's is no step and has no slip
+abbrev pub case4 : List Case
+case4 =
+    fromStart (from 300012 (camt050 "300012" "1" morning "1.00") gives rejected 4 1 ∷ [])
+    ∷ fromStart (from 300011 (camt050 "300011" "1" morning "1.00") gives unslipped (refusedWith 12 2) ∷ [])
+    ∷ []
+
+-- 5. On 2024-03-01 a message of the leap day is of the day before, one of 2024-02-28 is older
+abbrev pub case5 : List Case
+case5 =
+    fromStart (from 300001 (camt050 "300001" "1" "2024-02-29T23:59:59" "1.00") gives accepted 1 ∷ [])
+    ∷ fromStart (from 300001 (camt050 "300001" "1" "2024-02-28T23:59:59" "1.00") gives rejected 7 1 ∷ [])
+    ∷ []
+
+-- 6. A right IBAN, and the same with another last digit
+abbrev pub case6 : List Case
+case6 =
+    fromStart (from 300001 (pacs008 "1" morning "UA213223130000026007233566001") gives slipped Pacs008 Accc 0 1 ∷ [])
+    ∷ fromStart (from 300001 (pacs008 "1" morning "UA213223130000026007233566002") gives slipped Pacs008 Rjct 34 1 ∷ [])
+    ∷ []
+
+-- 7. Once a pacs.008 was taken back, no step has the identifier that a pacs.028 asks after. Before that, the same pacs.028 tells how it ended
+abbrev pub case7 : List Case
+case7 =
+    fromStart (
+    from 300001 (pacs008 "1" morning "UA213223130000026007233566001") gives slipped Pacs008 Accc 0 1
+    ∷ from 300001 (pacs028 "2" morning "1") gives slipped Pacs028 Accc 0 2
+    ∷ [])
+    ∷ fromStart (
+    from 300001 (pacs008 "1" morning "UA213223130000026007233566001") gives slipped Pacs008 Accc 0 1
+    ∷ under ticket takeBack gives values []
+    ∷ from 300001 (pacs028 "2" morning "1") gives slipped Pacs028 Pdng 10 1
+    ∷ [])
+    ∷ []
+
+-- 8. The five bytes of a slip: as a message gets them, as they are written and as they are read
+abbrev pub case8 : List Case
+case8 =
+    fromStart (
+    moves "1" "1.00" gives (done [], 0x48 ∷ 0x0C ∷ 0x00 ∷ 0x04 ∷ 0x01 ∷ [])
+    ∷ writing (slip Camt050 Accc 0 1) buffer gives (done [], 0x48 ∷ 0x0C ∷ 0x00 ∷ 0x04 ∷ 0x01 ∷ [])
+    ∷ reading (0x48 ∷ 0x0C ∷ 0x00 ∷ 0x04 ∷ 0x01 ∷ []) gives values (2 ∷ 1 ∷ 0 ∷ 3 ∷ 1 ∷ 1 ∷ [])
+    ∷ [])
+    ∷ []
+
+-- 9. Where sheets are refused: an element that holds nothing, one that is closed by another name, no sheet at all
+abbrev pub case9 : List Case
+case9 =
+    fromStart (
+    from 300001 (bytes "<A></A>") gives unslipped (refusedWith 7 4)
+    ∷ from 300001 (bytes "<A>x</B>") gives unslipped (refusedWith 7 6)
+    ∷ from 300001 [] gives unslipped (refusedWith 7 0)
+    ∷ [])
+    ∷ []
+
+-- 10. A seat that was closed and opened again has opening number 2, and no call with 1 is heard
+abbrev pub case10 : List Case
+case10 =
+    fromStart (
+    under ticket close gives values []
+    ∷ begin gives values (2 ∷ [])
+    ∷ reads 1 gives refusal 3
+    ∷ sets 0 None gives refusal 3
+    ∷ moves "1" "1.00" gives unslipped (refused 3)
+    ∷ under ticket takeBack gives refusal 3
+    ∷ under ticket close gives refusal 3
+    ∷ [])
+    ∷ []
+
+-- 11. With 24 steps there is no place for another; once one is taken back, its place and its number are free
+abbrev pub case11 : List Case
+case11 =
+    fromStart (replicate 24 (sets 0 None gives values [])
+    ++ (sets 0 None gives refusal 9
+    ∷ moves "1" "1.00" gives unslipped (refused 9)
+    ∷ under ticket takeBack gives values []
+    ∷ moves "1" "1.00" gives accepted 24
+    ∷ []))
+    ∷ []
+
+abbrev pub table : List Case
+table = case1 ++ case2 ++ case3 ++ case4 ++ case5 ++ case6 ++ case7 ++ case8 ++ case9 ++ case10 ++ case11
+
+-- what the calls of a case answer, one after the other, from a room that was laid out
+abbrev pub played : Case → List Answer
+played case = map (λ (event : Call × Answer). event .1) (events (centre directory) (case .calls) newRoom)
+
+-- the statement: played, every case gives the answers that stand beside its calls
+abbrev pub Cases : Type 0
+Cases = map played table ≡ map (λ (case : Case). case .answers) table

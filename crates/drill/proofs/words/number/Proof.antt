@@ -1,0 +1,48 @@
+-- The loop counts to the text's length.
+use Prim.Native.Nat.{_≤_, _-_}
+use lib.ListN.{length}
+use native.Mathlib.Omega.{arith}
+use borrow.Author.Needs.{needs}
+use Rattle.drill.proofs.words.number.Statement.{statement}
+use Rattle.drill.proofs.words.number.Tie as tie
+
+abbrev Inv-loop : tie.InvT-loop
+Inv-loop s n₀ i₀ n i = i ≤ length s
+
+abbrev μ-loop : tie.MeasureT-loop
+μ-loop s n₀ i₀ n i = length s - i
+
+loop-holds : tie.Need-loop-holds Inv-loop μ-loop
+loop-holds c = search needs
+
+shared-slice-read-longer : tie.Need-shared-slice-read-longer Inv-loop μ-loop
+shared-slice-read-longer c = search needs
+
+longer-requires : tie.Need-longer-requires Inv-loop μ-loop
+longer-requires c κs = tt
+
+add-i : tie.Need-add-i Inv-loop μ-loop
+add-i c = search needs
+
+loop-less : tie.Need-loop-less Inv-loop μ-loop
+loop-less c = search needs
+
+loop-again : tie.Need-loop-again Inv-loop μ-loop
+loop-again c = search needs
+
+returns : tie.Need-returns Inv-loop μ-loop
+returns c = search needs
+
+pub number-spec : {M : Type 1} → statement M
+number-spec =
+    tie.close
+    (tie.spec
+    Inv-loop
+    μ-loop
+    loop-holds
+    shared-slice-read-longer
+    longer-requires
+    add-i
+    loop-less
+    loop-again
+    returns)

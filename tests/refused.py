@@ -1,0 +1,239 @@
+"""The scenes of calls that are refused, each with what stands beside the fault, and of seats that share a room."""
+from messages import FITS, KINDS, document, is_money
+from script import (back, call, centre, listed, note, payment, play, put, request, show, start, submit, sums, ticket, transfer)
+
+ONE, TWO = 300001, 300002
+
+
+def slips():
+    note("Slips: buffers that are too short, of five bytes and longer; then fields that no slip has; then bytes to be read.")
+    for long in (0, 4, 5, 8):
+        call(0 if long >= 5 else 11, "write", 2, 1, 0, 3, 1, 1, long)
+    assert call(0, "write", 1, 2, 34, 7, 65535, 24, 6) and call(0, "slip", "345ffffc18")[2:] == (1, 2, 34, 7, 65535, 24)
+    for values in [(10, 1, 0, 3, 1, 1), (2, 5, 0, 0, 1, 1), (3, 0, 17, 0, 1, 1),
+                   (2, 1, 0, 8, 1, 1), (2, 1, 0, 0, 65537, 1), (2, 1, 0, 0, 1, 25)]:
+        call(11, "write", *values, 8)
+    assert call(0, "slip", "480c000401")[2:] == (2, 1, 0, 3, 1, 1)
+    for digits in ["480c000401aa", "480c0004", "", "480c000400"]:
+        call(11, "slip", digits)
+
+
+def sheets():
+    note("Sheets refused by 7, each with its place. The sender is unlisted, which would be 12.")
+    start(0, 50000, 10000)
+    good = str(transfer(ONE))
+    long = good.replace("<LqdyCdtTrf>", "<LqdyCdtTrf>" + ("<P>" + "x" * 140 + "</P>") * 53, 1)
+    long = long.replace("</MsgHdr>", "</MsgHdr><P>" + "y" * (8192 - len(long) - len("<P></P>")) + "</P>")
+    assert len(long) == 8192
+    for sheet, place in [
+        (good[:-1], len(good) - 1), (good + " ", len(good)), (good.replace("UAH", "UaH", 1), good.index('"UAH"') + 2),
+        (good.replace("09:00:00", "09:00&00"), good.index("09:00:00") + 5), ("<A>" * 13, 36), ("<A>" + "<B>x</B>" * 256 + "</A>", 2044),
+        (long.replace("yy", "yyy", 1), 8192), ("<" * 8193, 8192),
+    ]:
+        submit(f"7 {place}", 0, 300009, sheet)
+    note("Unknown messages; then fields that are missing, doubled and ill-shaped in turn: 8 with the field's number.")
+    for sheet in ["<A>x</A>", "<Document>x</Document>", good.replace("</Document>", "<A>x</A></Document>")]:
+        submit("8 0", 0, 300009, sheet)
+    good_ones = (payment(ONE, previous=ONE), (1, 6, 7, 8, 9, 14)), (transfer(ONE), (2, 4, 6)), (request(ONE, payment(ONE)), (3, 5))
+    for sheet, fields in good_ones:
+        leaves = sheet.leaves()
+        for k in fields:
+            (shape, path), leaf = KINDS[sheet.kind][1][k - 1], leaves[k - 1]
+            misfit = FITS["amount" if is_money(shape) else shape.rstrip("?")][1][0]
+            parts = [[], [leaf, leaf], [(path, misfit, leaf[2])]][k % 3]
+            submit(f"8 {k}", 0, 300009, document(sheet.kind, [*leaves[: k - 1], *parts, *leaves[k:]]))
+    note("The lowest number wins; a pacs.008 in another currency; a good sheet and the unlisted sender at last. No step was made.")
+    submit("8 4", 0, 300009, payment(ONE, instructed="1", creditor="2"))
+    submit("8 7", 0, 300009, payment(ONE, currency="USD"))
+    submit("12 1", 0, 300009, good)
+    play("dump 0")
+    note("A sheet of 8,192 bytes is carried out. Short buffers: 11, with an ill-formed sheet or an unlisted sender too. Long ones.")
+    submit("ACCC 0", 0, ONE, long)
+    submit("11 0", 0, ONE, transfer(ONE), long=0)
+    submit("11 0", 0, ONE, "<A></A>", long=1)
+    submit("11 0", 0, 300009, good, long=4)
+    submit("ACCC 0", 0, ONE, transfer(ONE, "0.01"), long=6)
+    submit("7 4", 0, ONE, "<A></A>", long=8)
+    submit("8 0", 0, ONE, "<A>x</A>", long=7)
+    submit("12 2", 0, 300011, good, long=6)
+    call(0, "close", *ticket(0))
+
+
+def numbers():
+    note("Tickets: seat above 7, a closed seat, opening numbers that differ; with other bad numbers beside them it is 3 still.")
+    start(1, 50000, 10000)
+    seat, opening = ticket(1)
+    sheet = str(transfer(ONE))
+    call(3, "open", 8, 1)
+    call(3, "close", 8, opening)
+    call(3, "close", 0, centre.seats[0].opening)
+    call(3, "close", seat, opening + 65536)
+    call(3, "back", 2**64 - 1, opening)
+    call(3, "back", seat, opening - 1)
+    call(3, "read", seat, opening + 1, 300009, 3)
+    call(3, "set", seat, 0, ONE, 0, 0, 0, 10**15 + 1, "-")
+    call(3, "submit", seat, opening + 1, ONE, 20240230, 4, sheet)
+    note("A seat that is open is 4, with bad sums too. 6: owners and account numbers that are none, limits, a sender above 999999.")
+    call(4, "open", seat, *sums())
+    call(4, "open", seat, 10**15 + 1)
+    for owner, number in [(300009, 1), (300012, 2), (ONE, 0), (2**64 - 1, 1)]:
+        call(6, "read", seat, opening, owner, number)
+    for owner, number in [(300009, 1), (300011, 2), (ONE, 3)]:
+        put(seat, owner, number, 1, 1, 1, 1, wants=6)
+    for ltk, lpo in [(10**15 + 1, "-"), (0, 10**15 + 1), (0, 2**64 - 1)]:
+        put(seat, ONE, 1, 0, 0, ltk, lpo, wants=6)
+    submit("6 0", seat, 1000000, sheet)
+    call(10, "back", seat, opening)
+    play("dump 1")
+    note("Sums: their count, one above 10^15, one for a record that is no owner. The largest amount; a balance above 10^15.")
+    right = sums(10**15, 10**15, 0, 10**15)
+    for given in [[], right[:-1], right[:-2], right + [0] * 12, [10**15 + 1, *right[1:]], [*right[:6], 1, *right[7:]]]:
+        call(6, "open", 0, *given)
+    call(0, "open", 0, *right)
+    submit("ACCC 0", 0, ONE, transfer(ONE, "99999999999.99"))
+    submit("ACCC 0", 0, ONE, payment(ONE, amount="99999999999.99"))
+    play("dump 0")
+
+
+def two_seats():
+    note("Two seats in turn: the same messages in both, and neither sees the other.")
+    call(0, "lay", 7384)
+    start(0, 50000, 10000)
+    start(7, 100, 200, 300, 400)
+    paid, moved = payment(ONE), transfer(ONE)
+    submit("ACCC 0", 0, ONE, paid)
+    submit("PDNG 10", 7, ONE, request(ONE, paid))
+    submit("ACCC 0", 7, ONE, moved)
+    submit("ACCC 0", 0, ONE, moved)
+    submit("ACCC 0", 7, ONE, paid)
+    put(7, ONE, 1, 1, 1, 5, 0)
+    submit("ACCC 0", 0, ONE, transfer(ONE))
+    submit("RJCT 20", 7, ONE, transfer(ONE))
+    back(0, 3)
+    submit("RJCT 6", 7, ONE, paid)
+    call(10, "back", *ticket(0))
+    show(0, ONE)
+    show(7, ONE)
+    note("One is closed and opened again: its opening number grows, its journal is empty, its old ticket is 3. The other goes on.")
+    call(0, "close", *ticket(0))
+    play("dump 0")
+    call(3, "read", 0, 1, ONE, 1)
+    submit("RJCT 17", 7, ONE, transfer(ONE, uetr=moved["uetr"]))
+    assert call(0, "open", 0, *sums(7, 8))[2] == 2
+    call(3, "back", 0, 1)
+    submit("RJCT 22", 0, ONE, paid)
+    play("dump 0")
+    play("dump 7")
+
+
+def openings():
+    note("The last opening number: a closed seat's count is stored as 65,534; opened and closed, the seat is 5, with bad sums too.")
+    play(f"poke {2 * 923} 65534")
+    assert call(0, "open", 2, *sums(50000, 10000))[2] == 65535
+    call(4, "open", 2, 1)
+    submit("ACCC 0", 2, ONE, transfer(ONE))
+    call(0, "read", 2, 65535, ONE, 2)
+    call(0, "close", 2, 65535)
+    call(5, "open", 2, *sums())
+    call(5, "open", 2, 1)
+    play("dump 2")
+
+
+def account_place(account, number):
+    """Of seat 0."""
+    return 3 + 7 * account + number
+
+
+def step_place(step, number):
+    return 227 + 29 * (step - 1) + number
+
+
+def spoilt(place, number, *calls):
+    """Calls on a room with another number at a place, which then has its own again."""
+    own = centre.number_at(place)
+    assert own != number
+    play(f"poke {place} {number}")
+    for words in calls:
+        call(1, *words)
+    play(f"poke {place} {own}")
+
+
+def rooms():
+    note("Rooms with one number changed: 1, also with a bad ticket or number beside it. A number behind the room changes nothing.")
+    start(0, 50000, 10000)
+    put(0, ONE, 1, 0, 1, 100, 40000)
+    submit("ACCC 0", 0, ONE, transfer(ONE, "200.00"))
+    submit("RJCT 22", 0, ONE, transfer(ONE, "400.00"))
+    submit("ACCC 0", 0, ONE, payment(ONE, amount="3.00"))
+    sheet = transfer(ONE)
+    spoilt(account_place(0, 1), 30001, ("open", 8, 1))
+    spoilt(account_place(0, 2), 0, ("close", 8, 1))
+    spoilt(account_place(0, 6), 0, ("set", *ticket(0), ONE, 3, 0, 0, 0, "-"))
+    spoilt(account_place(31, 0), 1, ("submit", *ticket(0), ONE, 20240301, 5, sheet))
+    spoilt(step_place(2, 19), 19999, ("submit", *ticket(0), 1000000, 0, 4, "<A></A>"))
+    spoilt(step_place(3, 2), 25, ("back", 0, 65536))
+    spoilt(step_place(4, 17), 0, ("read", *ticket(0), ONE, 1))
+    spoilt(step_place(5, 28), 1, ("back", *ticket(0)))
+    spoilt(0, 65536, ("back", *ticket(0)))
+    play("poke 7384 1")
+    show(0, ONE)
+    play("dump 0")
+    note("Rooms of a wrong length: 1 for laying out and for every call behind it. A new room has no opening numbers.")
+    call(1, "lay", 0)
+    call(1, "open", 0, *sums())
+    call(1, "lay", 7383)
+    call(1, "set", *ticket(0), ONE, 1, 0, 0, 0, "-")
+    call(1, "close", *ticket(0))
+    call(1, "lay", 7385)
+    call(1, "submit", *ticket(0), ONE, 20240301, 5, sheet)
+    call(1, "lay", 7400)
+    call(1, "back", *ticket(0))
+    call(1, "read", *ticket(0), ONE, 1)
+    call(0, "lay", 7384)
+    play("dump 0")
+    play(f"poke {2 * 923 - 1} 1")
+    call(1, "open", 0, *sums())
+    call(0, "lay", 7384)
+    call(0, "open", 0, *sums(5, 6))
+
+
+def directories():
+    note("Unfit directories: 2, with a bad ticket and bad numbers too; with an unfit room 1. Close and take back ask for none.")
+    put(0, ONE, 1, ltk=1)
+    listed()
+    bad = (("open", 8, 1), ("set", 0, 0, ONE, 3, 0, 0, 10**15 + 1, "-"), ("submit", 9, 1, 1000000, 0, 0, ""), ("read", 0, 0, ONE, 3))
+    for words in bad:
+        call(2, *words)
+    spoilt(account_place(0, 1), 6, *bad)
+    call(0, "back", *ticket(0))
+    call(3, "close", 8, 1)
+    note("Unsorted, a code twice, a code above 999999, one that names no owner, one that names nobody.")
+    for records in [[(TWO, 1, 0, 0), (ONE, 1, 0, 0)], [(ONE, 1, 0, 0), (ONE, 1, 0, 0)], [(ONE, 1, 0, 0), (1000000, 1, 0, 0)],
+                    [(ONE, 1, 0, 0), (300011, 1, 1, ONE), (300012, 1, 2, 300011)], [(ONE, 1, 0, 0), (300021, 1, 3, TWO)]]:
+        listed(*records)
+        call(2, "read", *ticket(0), ONE, 1)
+    note("Sixteen records, code 0 among them: 32 sums, and the last place's accounts. A seventeenth is too many.")
+    listed((0, 1, 0, 0), *[(100000 + k, 0, k % 4, 0) for k in range(14)], (999998, 1, 0, 0))
+    call(6, "open", 1, 100, 200, *[0] * 28, 300)
+    call(6, "open", 1, 100, 200, *[0] * 28, 300, 400, 0, 0)
+    call(0, "open", 1, 100, 200, *[0] * 28, 300, 400)
+    submit("ACCC 0", 1, 999998, transfer(999998, "3.00"))
+    submit("ACCC 0", 1, 0, transfer(0, "2.00", way="21"))
+    submit("ACCC 0", 1, 999998, payment(999998, 0, amount="7.00"))
+    play("dump 1")
+    play("record 999999 1 0 0")
+    call(2, "open", 2, *[0] * 34)
+    call(2, "read", *ticket(1), 0, 1)
+    note("Another fit directory, with the highest code: what is stored belongs to the records that stand at its places.")
+    listed((200001, 1, 0, 0), (200002, 1, 0, 0), (999999, 1, 1, 200002))
+    show(1, 200001)
+    call(6, "read", *ticket(1), 999998, 1)
+    put(1, 200002, 1, 1, 1, 2, 3)
+    submit("ACCC 0", 1, 200001, transfer(200001, "1.00"))
+    play("dump 1")
+    back(1, 2)
+    call(0, "close", *ticket(1))
+    play("dump 1")
+
+
+SCENES = (slips, sheets, numbers, two_seats, openings, rooms, directories)
