@@ -1,6 +1,7 @@
 pub mod Decided
 pub mod Deeds
 pub mod DoneCalls
+pub mod EasilyRight
 pub mod Firsts
 pub mod Heard
 pub mod Heeded

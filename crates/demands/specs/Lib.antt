@@ -2,3 +2,4 @@ pub mod Calls
 pub mod Refusals
 pub mod Messages
 pub mod Seats
+pub mod EasilyWrong
