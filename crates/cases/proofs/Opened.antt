@@ -27,10 +27,10 @@ use Rattle.layout.specs.Rows.{accountRow, headRow, stepRow, stepIn, accountIn, 
 use Rattle.layout.specs.Seat.{headOf, withStep, seatOf, accountOf as layoutAccountOf, withSeat, stepOf, withAccount, withHead}
 use Rattle.seat.specs.Calls.{noTicket, accountFound, sumsGood, pairGood, limitNumber, settingsOf, accountNamed}
 use Rattle.seat.specs.Fit.{seatFits, closedFits, closedSeat, openFits, openSeat, sumsOf, openAccounts, roomFits, sumsFrom, same}
-use Rattle.seat.specs.Journal.{earliest, leaves, firstIn}
-use Rattle.seat.specs.Limits.{availableBelow, turnoverAbove, blockedOut, blockedInto, turnoverShut}
-use Rattle.seat.specs.Steps.{stepFits, noSet, movementFits, noMovement, carriedOut, sameSettings, isStored, settingsFit, between, referenceFits, noMessage, messageFits, setFits, isStoredUetr}
-use Rattle.seat.specs.Working.{uneffect, stepped, worked, moved, possible, changed, covered, journalOf, effect, backed, unmoved, stepsFrom}
+use Rattle.journal.specs.Traces.{earliest, leaves, firstIn}
+use Rattle.journal.specs.Limits.{availableBelow, turnoverAbove, blockedOut, blockedInto, turnoverShut}
+use Rattle.journal.specs.Steps.{stepFits, noSet, movementFits, noMovement, carriedOut, sameSettings, isStored, settingsFit, between, referenceFits, noMessage, messageFits, setFits, isStoredUetr}
+use Rattle.journal.specs.Working.{uneffect, stepped, worked, moved, possible, changed, covered, journalOf, effect, backed, unmoved, stepsFrom}
 use Rattle.judge.specs.Case.{movementOf, accountOn, creditOwner, debitOwner, caseOf}
 use Rattle.judge.specs.Rows.{isAsp, identifierRepeated, creditorNotInstant, creditorNotServed, debtorElsewhere, creditorElsewhere, instructingNotServing, debtorNotHryvnia, identifierBad, debtorAnothers, shows, creditBlocked, ibanWrong, accountAt, creditorNotHryvnia, debtorUnlisted, moneyShort, createdElsewhen, senderNotInstant, previousNotServing, originalDiffers, instructedNoBank, creditorNoProvider, uetrRepeated, askedAfter, amountForeign, originalUnknown, debitBlocked, senderNoOwner, currenciesDiffer, isSep, notFromSender, isThere, limitZero, senderIndirect, creditorAnothers, originalBad, senderUnlisted, digitsWrong, limitPassed, isOne, createdOn, differs}
 use Rattle.judge.specs.Values.{orZero, agree}

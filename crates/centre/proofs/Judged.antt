@@ -18,12 +18,12 @@ use Rattle.slip.specs.Answers.{canWrite, writeAfter}
 use Rattle.layout.specs.declared.rows.Head.{Head}
 use Rattle.layout.specs.declared.rows.Step.{Step}
 use Rattle.layout.specs.Seat.{seatLong, headOf}
-use Rattle.seat.specs.Low.{Low}
-use Rattle.seat.specs.Steps.{stepFits}
-use Rattle.seat.specs.Working.{covered, possible, stepped}
+use Rattle.journal.specs.Low.{Low}
+use Rattle.journal.specs.Steps.{stepFits}
+use Rattle.journal.specs.Working.{covered, possible, stepped}
+use Rattle.journal.proofs.Backed.{possible-fits}
 use Rattle.seat.specs.Fit.{openFits, seatFits}
 use Rattle.seat.specs.Calls.{noTicket}
-use Rattle.seat.proofs.Backed.{possible-fits}
 use Rattle.seat.proofs.Forward.{open-fits, fit-low}
 use Rattle.seat.proofs.Kept.{fit-long, fit-open}
 use Rattle.seat.proofs.Answered.{ticket-good}

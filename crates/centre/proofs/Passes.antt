@@ -17,7 +17,7 @@ use Rattle.layout.specs.declared.rows.Step.{Step}
 use Rattle.layout.specs.Parts.{part, put}
 use Rattle.layout.specs.Rows.{headRow, headIn}
 use Rattle.layout.specs.Seat.{roomLong, headOf, withHead, withStep, seatOf, withSeat}
-use Rattle.seat.specs.Working.{effect, counting, stepped}
+use Rattle.journal.specs.Working.{effect, counting, stepped}
 use Rattle.seat.specs.Fit.{roomFits}
 use Rattle.seat.proofs.Rooms.{room-long}
 use Rattle.centre.specs.Answers.{Told, first}

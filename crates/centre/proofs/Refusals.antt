@@ -20,12 +20,12 @@ use Rattle.layout.specs.declared.rows.Account.{Account}
 use Rattle.layout.specs.declared.rows.Settings.{Settings}
 use Rattle.layout.specs.Rows.{accountRow}
 use Rattle.layout.specs.Seat.{seatLong, roomLong, headOf, accountOf, seatOf, withSeat}
+use Rattle.journal.specs.Steps.{settingsFit}
+use Rattle.journal.specs.Working.{backed}
 use Rattle.seat.specs.declared.calls.Answer as seat
 use Rattle.seat.specs.declared.calls.Answer.the-variants as seat-answer
 use Rattle.seat.specs.declared.calls.Reading.{Reading}
 use Rattle.seat.specs.declared.calls.Wish.{Wish}
-use Rattle.seat.specs.Steps.{settingsFit}
-use Rattle.seat.specs.Working.{backed}
 use Rattle.seat.specs.Fit.{closedSeat, openSeat, roomFits}
 use Rattle.seat.specs.Calls.{
   noTicket,

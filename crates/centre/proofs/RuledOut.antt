@@ -23,9 +23,9 @@ use Rattle.layout.specs.Parts.{put}
 use Rattle.layout.specs.Rows.{accountRow, accountIn}
 use Rattle.layout.specs.Seat.{roomLong, headOf, withHead, accountOf, withStep, seatOf, withSeat}
 use Rattle.layout.proofs.RowLaws.{account-read}
+use Rattle.journal.specs.Steps.{noStep, settingsFit}
+use Rattle.journal.specs.Working.{uneffect, counting, lastStep, backed}
 use Rattle.seat.specs.declared.calls.Wish.{Wish}
-use Rattle.seat.specs.Steps.{noStep, settingsFit}
-use Rattle.seat.specs.Working.{uneffect, counting, lastStep, backed}
 use Rattle.seat.specs.Fit.{closedSeat, roomFits}
 use Rattle.seat.specs.Calls.{sumsGood, accountNamed, accountNumber, settingsOf, setStep}
 use Rattle.seat.proofs.Answered.{ticket-good}

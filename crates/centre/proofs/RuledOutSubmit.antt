@@ -26,7 +26,7 @@ use Rattle.directory.specs.declared.Participant.{Participant}
 use Rattle.directory.specs.Directory.{codeMost, isFit}
 use Rattle.layout.specs.declared.rows.Step.{Step}
 use Rattle.layout.specs.Seat.{headOf, seatOf, withSeat}
-use Rattle.seat.specs.Working.{stepped}
+use Rattle.journal.specs.Working.{stepped}
 use Rattle.seat.specs.Fit.{roomFits}
 use Rattle.judge.specs.declared.case.Case.{Case}
 use Rattle.judge.specs.declared.outcome.Outcome.{Outcome}

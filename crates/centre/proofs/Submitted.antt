@@ -21,8 +21,8 @@ use Rattle.directory.specs.Directory.{codeMost, isFit}
 use Rattle.layout.specs.Seat.{headOf, seatOf, withSeat}
 use Rattle.layout.proofs.Parts.{given-back}
 use Rattle.layout.proofs.Rooms.{seat-same}
+use Rattle.journal.specs.Working.{stepped}
 use Rattle.seat.specs.Calls.{noTicket}
-use Rattle.seat.specs.Working.{stepped}
 use Rattle.seat.specs.Fit.{seatFits, roomFits}
 use Rattle.seat.proofs.Answered.{ticket-good}
 use Rattle.seat.proofs.Forward.{open-fits}

@@ -10,9 +10,9 @@ use Rattle.directory.specs.declared.Participant.{Participant}
 use Rattle.directory.specs.Directory.{found, isFit}
 use Rattle.layout.specs.Rows.{accountRow}
 use Rattle.layout.specs.Seat.{roomLong, headOf, accountOf, seatOf, withSeat}
+use Rattle.journal.specs.Steps.{settingsFit}
+use Rattle.journal.specs.Working.{stepped, backed}
 use Rattle.seat.specs.declared.calls.Wish.{Wish}
-use Rattle.seat.specs.Steps.{settingsFit}
-use Rattle.seat.specs.Working.{stepped, backed}
 use Rattle.seat.specs.Fit.{closedSeat, openSeat, roomFits}
 use Rattle.seat.specs.Calls.{noTicket, sumsGood, accountNamed, accountNumber, settingsOf, setStep}
 use Rattle.centre.specs.declared.Ticket.{Ticket}

@@ -13,7 +13,7 @@ use Rattle.layout.specs.declared.rows.Head.{Head}
 use Rattle.layout.specs.Parts.{part}
 use Rattle.layout.specs.Rows.{headIn}
 use Rattle.layout.specs.Seat.{headOf, seatOf}
-use Rattle.seat.specs.Working.{backed}
+use Rattle.journal.specs.Working.{backed}
 use Rattle.seat.specs.Fit.{seatFits}
 use Rattle.seat.proofs.Answered.{back-done}
 use Rattle.seat.proofs.Opened.{opened-head}

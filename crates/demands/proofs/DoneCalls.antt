@@ -21,10 +21,10 @@ use Rattle.directory.specs.Directory.{codeMost, found, isFit}
 use Rattle.directory.proofs.Finds.{fit-few}
 use Rattle.layout.specs.declared.rows.Step.{Step}
 use Rattle.layout.specs.Seat.{headOf, accountOf}
+use Rattle.journal.specs.Steps.{settingsFit}
+use Rattle.journal.specs.Working.{possible, stepped}
 use Rattle.seat.specs.declared.calls.Answer.the-variants.{Done}
 use Rattle.seat.specs.declared.calls.Wish.{Wish}
-use Rattle.seat.specs.Steps.{settingsFit}
-use Rattle.seat.specs.Working.{possible, stepped}
 use Rattle.seat.specs.Fit.{seatFits}
 use Rattle.seat.specs.Calls.{noTicket, sumsGood, openAnswer, closeAnswer, accountNamed, accountNumber, placeFits, settingsOf, setStep, setAnswer, backAnswer}
 use Rattle.seat.proofs.Answered.{ticket-good}

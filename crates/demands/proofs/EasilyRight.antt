@@ -13,17 +13,17 @@ use Rattle.slip.specs.Meaning.{kindNumber}
 use Rattle.layout.specs.declared.rows.Account.{Account}
 use Rattle.layout.specs.declared.rows.Step.{Step}
 use Rattle.layout.specs.Seat.{headOf, stepOf}
-use Rattle.seat.specs.declared.journal.Trace.{Trace}
-use Rattle.seat.specs.declared.journal.Trace.the-variants as trace
-use Rattle.seat.specs.declared.journal.Earlier.{Earlier}
-use Rattle.seat.specs.declared.journal.Earlier.the-variants as earlier
+use Rattle.journal.specs.declared.traces.Trace.{Trace}
+use Rattle.journal.specs.declared.traces.Trace.the-variants as trace
+use Rattle.journal.specs.declared.traces.Earlier.{Earlier}
+use Rattle.journal.specs.declared.traces.Earlier.the-variants as earlier
 use Rattle.seat.specs.declared.calls.Limit.the-variants.{Of, None}
-use Rattle.seat.specs.Steps.{setKind, isKind}
-use Rattle.seat.specs.Working.{stepped, backed, stepsFrom, journalOf}
-use Rattle.seat.specs.Journal.{leaves, firstIn, earliest}
-use Rattle.seat.specs.Limits.{turnoverAbove, turnoverShut}
+use Rattle.journal.specs.Steps.{setKind, isKind}
+use Rattle.journal.specs.Working.{stepped, backed, stepsFrom, journalOf}
+use Rattle.journal.specs.Traces.{leaves, firstIn, earliest}
+use Rattle.journal.specs.Limits.{turnoverAbove, turnoverShut}
 use Rattle.seat.specs.Calls.{limitNumber}
-use Rattle.seat.proofs.Backed.{back-restores}
+use Rattle.journal.proofs.Backed.{back-restores}
 use Rattle.seat.proofs.Reached.{fit-free}
 use Rattle.seat.proofs.Kept.{fit-long, fit-open}
 use Rattle.judge.specs.declared.case.Case.{Case}

@@ -15,8 +15,8 @@ use Rattle.directory.specs.declared.Participant.{Participant}
 use Rattle.directory.specs.Directory.{codeMost, found, isFit}
 use Rattle.layout.specs.Rows.{accountRow}
 use Rattle.layout.specs.Seat.{headOf, accountOf}
-use Rattle.seat.specs.Steps.{settingsFit}
-use Rattle.seat.specs.Working.{stepped, backed}
+use Rattle.journal.specs.Steps.{settingsFit}
+use Rattle.journal.specs.Working.{stepped, backed}
 use Rattle.seat.specs.Fit.{closedSeat, openSeat}
 use Rattle.seat.specs.Calls.{noTicket, sumsGood, accountNamed, accountNumber, settingsOf}
 use Rattle.centre.specs.declared.Ticket.{Ticket}

@@ -14,9 +14,9 @@ use Rattle.table.specs.declared.Kind.the-variants.{Pacs008, Camt050, Pacs028}
 use Rattle.slip.specs.Meaning.{kindNumber}
 use Rattle.layout.specs.declared.rows.Account.{Account}
 use Rattle.layout.specs.declared.rows.Step.{Step}
-use Rattle.seat.specs.Steps.{setKind, isKind}
-use Rattle.seat.specs.Working.{debited, credited, turned}
-use Rattle.seat.proofs.Changed.{hit, after}
+use Rattle.journal.specs.Steps.{setKind, isKind}
+use Rattle.journal.specs.Working.{debited, credited, turned}
+use Rattle.journal.proofs.Changed.{hit, after}
 use Rattle.judge.specs.declared.case.Case.{Case}
 use Rattle.judge.specs.declared.outcome.Outcome.{Outcome}
 use Rattle.judge.specs.Values.{orZero}

@@ -9,8 +9,8 @@ use native.Mathlib.Omega.{arith}
 use Rattle.directory.specs.declared.Participant.{Participant}
 use Rattle.directory.proofs.Finds.{fit-few}
 use Rattle.layout.specs.Seat.{headOf}
+use Rattle.journal.specs.Working.{stepped, backed}
 use Rattle.seat.specs.declared.calls.Answer.the-variants.{Done}
-use Rattle.seat.specs.Working.{stepped, backed}
 use Rattle.seat.specs.Fit.{closedSeat, openSeat, seatFits}
 use Rattle.seat.specs.Calls.{openAnswer, openAfter, closeAnswer, closeAfter, backAnswer, backAfter}
 use Rattle.seat.proofs.Answered.{behind-done as seat-done, good-ticket}

@@ -15,7 +15,7 @@ use Rattle.directory.specs.declared.Participant.{Participant}
 use Rattle.layout.specs.Seat.{seatLong, roomLong, headOf, seatOf, withSeat}
 use Rattle.layout.proofs.Parts.{part-put-behind}
 use Rattle.layout.proofs.Rooms.{seat-got, seat-other}
-use Rattle.seat.specs.Working.{backed}
+use Rattle.journal.specs.Working.{backed}
 use Rattle.seat.specs.Fit.{seatFits, roomFits}
 use Rattle.seat.proofs.Kept.{fit-long, room-fits}
 use Rattle.seat.proofs.Rooms.{room-long, room-seat, room-keeps}

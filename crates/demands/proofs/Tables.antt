@@ -17,7 +17,7 @@ use Rattle.directory.specs.declared.Participant.{Participant}
 use Rattle.directory.specs.Directory.{codeMost, found, isFit}
 use Rattle.layout.specs.Rows.{accountRow}
 use Rattle.layout.specs.Seat.{headOf, accountOf, seatOf}
-use Rattle.seat.specs.Steps.{settingsFit}
+use Rattle.journal.specs.Steps.{settingsFit}
 use Rattle.seat.specs.Fit.{roomFits}
 use Rattle.seat.specs.Calls.{sumsGood, accountNamed, accountNumber, settingsOf}
 use Rattle.centre.specs.declared.Ticket.{Ticket}

@@ -22,15 +22,15 @@ use Rattle.layout.specs.declared.rows.Head.{Head}
 use Rattle.layout.specs.declared.rows.Step.{Step}
 use Rattle.layout.specs.Seat.{accounts, seatLong, headOf, accountOf, stepOf, seatOf, withSeat}
 use Rattle.layout.proofs.Rooms.{seat-got}
-use Rattle.seat.specs.Steps.{stepFits}
-use Rattle.seat.specs.Working.{stepped, covered, possible}
+use Rattle.journal.specs.Steps.{stepFits}
+use Rattle.journal.specs.Working.{stepped, covered, possible}
+use Rattle.journal.proofs.Backed.{possible-fits}
+use Rattle.journal.proofs.Changed.{after, stepped-length, stepped-head, stepped-last, stepped-account}
 use Rattle.seat.specs.Fit.{openFits, seatFits}
 use Rattle.seat.proofs.Answered.{ticket-good}
-use Rattle.seat.proofs.Backed.{possible-fits}
 use Rattle.seat.proofs.Forward.{open-fits}
 use Rattle.seat.proofs.Kept.{fit-long, fit-open}
 use Rattle.seat.proofs.Rooms.{room-long, room-seat}
-use Rattle.seat.proofs.Changed.{after, stepped-length, stepped-head, stepped-last, stepped-account}
 use Rattle.judge.specs.declared.case.Case.{Case}
 use Rattle.judge.specs.declared.outcome.Outcome.{Outcome}
 use Rattle.judge.specs.Case.{caseOf, Arises}

@@ -9,10 +9,10 @@ use Rattle.slip.specs.Meaning.{steps, kindNumber}
 use Rattle.layout.specs.declared.rows.Account.{Account}
 use Rattle.layout.specs.declared.rows.Step.{Step}
 use Rattle.layout.specs.Seat.{headOf, stepOf}
-use Rattle.seat.specs.Steps.{setKind, isKind}
-use Rattle.seat.specs.Working.{stepped, backed, possible}
+use Rattle.journal.specs.Steps.{setKind, isKind}
+use Rattle.journal.specs.Working.{stepped, backed, possible}
 use Rattle.seat.specs.Fit.{seatFits}
-use Rattle.seat.specs.Limits.{turnoverAbove, turnoverShut}
+use Rattle.journal.specs.Limits.{turnoverAbove, turnoverShut}
 use Rattle.seat.specs.Calls.{limitNumber}
 use Rattle.seat.specs.declared.calls.Limit.the-variants.{Of, None}
 use Rattle.judge.specs.declared.case.Case.{Case}

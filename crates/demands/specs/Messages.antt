@@ -24,7 +24,7 @@ use Rattle.message.specs.Received.{receivedOf}
 use Rattle.directory.specs.declared.Participant.{Participant}
 use Rattle.layout.specs.declared.rows.Account.{Account}
 use Rattle.layout.specs.Seat.{accounts, headOf, accountOf, stepOf, seatOf}
-use Rattle.seat.specs.Working.{debited, credited, turned}
+use Rattle.journal.specs.Working.{debited, credited, turned}
 use Rattle.judge.specs.declared.case.Case.{Case}
 use Rattle.judge.specs.declared.outcome.Outcome.{Outcome}
 use Rattle.judge.specs.Case.{caseOf}

@@ -15,7 +15,7 @@ use Rattle.message.specs.Received.{numberOf, receivedOf}
 use Rattle.directory.specs.declared.Participant.{Participant}
 use Rattle.directory.specs.Directory.{codeMost, found, isFit}
 use Rattle.layout.specs.Seat.{roomLong, headOf, seatOf}
-use Rattle.seat.specs.Steps.{settingsFit}
+use Rattle.journal.specs.Steps.{settingsFit}
 use Rattle.seat.specs.Fit.{roomFits}
 use Rattle.seat.specs.Calls.{sumsGood, accountNamed, settingsOf}
 use Rattle.centre.specs.declared.Ticket.{Ticket}

@@ -16,7 +16,7 @@ use Rattle.table.specs.declared.Kind.the-variants.{Pacs008, Camt050}
 use Rattle.directory.specs.declared.Found.{Found}
 use Rattle.directory.specs.Directory.{found, foundAs, ownerUsed, ownerFound, bankFound}
 use Rattle.layout.specs.Seat.{accounts}
-use Rattle.seat.specs.Steps.{amountMost}
+use Rattle.journal.specs.Steps.{amountMost}
 use Rattle.seat.specs.Calls.{accountFound}
 use Rattle.judge.specs.declared.case.Case.{Case}
 use Rattle.judge.specs.declared.case.Movement.{Movement}

@@ -23,10 +23,10 @@ use Rattle.directory.specs.declared.Found.the-variants.{At, Missing}
 use Rattle.directory.specs.Directory.{found, foundAs, isListed, isInstant, ownerFound, isOwner, inSep, underSep, headNamed, headIn, isBank, bankFound}
 use Rattle.layout.specs.declared.rows.Account.{Account}
 use Rattle.layout.specs.Seat.{accounts, accountOf}
-use Rattle.seat.specs.Steps.{amountMost}
-use Rattle.seat.specs.Limits.{availableBelow}
+use Rattle.journal.specs.Steps.{amountMost}
+use Rattle.journal.specs.Limits.{availableBelow}
+use Rattle.journal.proofs.Above.{available-covers}
 use Rattle.seat.specs.Calls.{accountFound}
-use Rattle.seat.proofs.Above.{available-covers}
 use Rattle.judge.specs.declared.case.Case.{Case}
 use Rattle.judge.specs.declared.money.Holding.{Holding}
 use Rattle.judge.specs.declared.money.Holding.the-variants as holding

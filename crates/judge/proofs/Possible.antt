@@ -23,10 +23,10 @@ use Rattle.message.proofs.Shaped.{IsIdentifier, IsUetr, IsTime, Referenced, Sha
 use Rattle.directory.specs.Directory.{codeMost}
 use Rattle.layout.specs.declared.rows.Step.{Step}
 use Rattle.layout.specs.Seat.{accounts, accountOf, seatLong}
-use Rattle.seat.specs.Steps.{setKind, amountMost, noIdentifier, sameSettings, isStored, isStoredUetr, noMovement, noSet, setFits, carriedOut, between, movementFits, referenceFits, messageFits, stepFits}
-use Rattle.seat.specs.Working.{covered, possible}
+use Rattle.journal.specs.Steps.{setKind, amountMost, noIdentifier, sameSettings, isStored, isStoredUetr, noMovement, noSet, setFits, carriedOut, between, movementFits, referenceFits, messageFits, stepFits}
+use Rattle.journal.specs.Working.{covered, possible}
+use Rattle.journal.proofs.StepLaws.{stored-fits, uetr-fits}
 use Rattle.seat.specs.Fit.{openFits}
-use Rattle.seat.proofs.StepLaws.{stored-fits, uetr-fits}
 use Rattle.judge.specs.declared.case.Case.{Case}
 use Rattle.judge.specs.declared.case.Movement.{Movement}
 use Rattle.judge.specs.declared.outcome.Outcome.{Outcome}

@@ -18,13 +18,14 @@ use Rattle.slip.specs.declared.Status.the-variants.{Accc}
 use Rattle.slip.specs.Meaning.{kindNumber, statusNumber, appears, endsWith, says}
 use Rattle.directory.specs.Directory.{codeMost}
 use Rattle.layout.specs.declared.rows.Step.{Step}
-use Rattle.seat.specs.declared.journal.Trace.the-variants.{Payment}
-use Rattle.seat.specs.declared.journal.Earlier.{Earlier}
-use Rattle.seat.specs.declared.journal.Earlier.the-variants.{Of, None}
-use Rattle.seat.specs.Steps.{setKind, isKind, isStored, isStoredUetr, setFits, movementFits, referenceFits, noSet, messageFits, stepFits}
+use Rattle.journal.specs.declared.traces.Trace.the-variants.{Payment}
+use Rattle.journal.specs.declared.traces.Earlier.{Earlier}
+use Rattle.journal.specs.declared.traces.Earlier.the-variants.{Of, None}
+use Rattle.journal.specs.Steps.{setKind, isKind, isStored, isStoredUetr, setFits, movementFits, referenceFits, noSet, messageFits, stepFits}
+use Rattle.journal.specs.Traces.{leaves, earliest}
+use Rattle.journal.proofs.TraceLaws.{earliest-leaves}
 use Rattle.seat.specs.Fit.{openFits}
-use Rattle.seat.specs.Journal.{leaves, earliest}
-use Rattle.seat.proofs.Traces.{earliest-leaves, earliest-fits}
+use Rattle.seat.proofs.Traces.{earliest-fits}
 use Rattle.judge.specs.declared.case.Case.{Case}
 use Rattle.judge.specs.declared.outcome.Outcome.{Outcome}
 use Rattle.judge.specs.Rows.{isThere, askedAfter, originalUnknown}

@@ -1,6 +1,6 @@
 -- The 34 rows of the check table, in its order and words: document 01, "The checks". Each says when its check fails, of any case and any seat,
 -- whatever the other rows say. A check on a missing record, account or step fails only where its row says so.
--- Who an agent is goes through `directory` alone, what stands in earlier steps and accounts through `seat` alone.
+-- Who an agent is goes through `directory` alone, what stands in earlier steps and accounts through `journal` alone.
 use mathlib.Core.Bool.{Bool, true, false, not, _&&_, _||_, cond}
 use mathlib.Core.List.{List}
 use Prim.Native.Nat.{ℕ}
@@ -22,11 +22,11 @@ use Rattle.layout.specs.declared.rows.Step.{Step}
 use Rattle.layout.specs.Seat.{accounts, accountOf}
 use Rattle.message.specs.declared.Message.{Message}
 use Rattle.message.specs.Good.{isGiven}
-use Rattle.seat.specs.declared.journal.Trace.the-variants as trace
-use Rattle.seat.specs.declared.journal.Earlier.{Earlier}
-use Rattle.seat.specs.declared.journal.Earlier.the-variants as earlier
-use Rattle.seat.specs.Journal.{earliest}
-use Rattle.seat.specs.Limits.{blockedOut, blockedInto, availableBelow, turnoverAbove, turnoverShut}
+use Rattle.journal.specs.declared.traces.Trace.the-variants as trace
+use Rattle.journal.specs.declared.traces.Earlier.{Earlier}
+use Rattle.journal.specs.declared.traces.Earlier.the-variants as earlier
+use Rattle.journal.specs.Traces.{earliest}
+use Rattle.journal.specs.Limits.{blockedOut, blockedInto, availableBelow, turnoverAbove, turnoverShut}
 use Rattle.judge.specs.declared.case.Case.{Case}
 use Rattle.judge.specs.declared.case.Movement.{Movement}
 use Rattle.judge.specs.declared.money.Holding.{Holding}

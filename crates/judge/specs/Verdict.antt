@@ -11,9 +11,9 @@ use Rattle.table.specs.Checks.{orderOf}
 use Rattle.slip.specs.declared.Status.the-variants.{Pdng, Accc, Rjct}
 use Rattle.slip.specs.Meaning.{kindNumber, statusNumber}
 use Rattle.layout.specs.declared.rows.Step.{Step}
-use Rattle.seat.specs.declared.journal.Earlier.{Earlier}
-use Rattle.seat.specs.declared.journal.Earlier.the-variants.{Of, None}
-use Rattle.seat.specs.Steps.{noSettings}
+use Rattle.journal.specs.declared.traces.Earlier.{Earlier}
+use Rattle.journal.specs.declared.traces.Earlier.the-variants.{Of, None}
+use Rattle.journal.specs.Steps.{noSettings}
 use Rattle.judge.specs.declared.case.Case.{Case}
 use Rattle.judge.specs.declared.outcome.Outcome.{Outcome}
 use Rattle.judge.specs.Values.{orZero}

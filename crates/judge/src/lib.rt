@@ -1,7 +1,7 @@
 // The judge: each of the 34 checks, the first that fails in the order of a message's kind, and what becomes of the message. Document 01,
 // "The checks".
-// It knows a seat's accounts and journal through `seat`, participants through `directory`, and changes nothing. What a check looks at stands in
-// `specs/Case.antt`, the rows in `specs/Rows.antt`, the verdict and the step in `specs/Verdict.antt`.
+// It knows a seat's accounts and journal through `seat` and `journal`, participants through `directory`, and changes nothing. What a check looks
+// at stands in `specs/Case.antt`, the rows in `specs/Rows.antt`, the verdict and the step in `specs/Verdict.antt`.
 
 mod accounts;
 mod case;

@@ -1,13 +1,13 @@
 // Checks 20 to 24: blocks, limits and available money of the accounts that a movement is between. The rules stand in `specs/Rows.antt`, one
 // definition for each function.
 use crate::case::Movement;
+use journal::available_below;
+use journal::blocked_into;
+use journal::blocked_out;
+use journal::turnover_above;
+use journal::turnover_shut;
 use layout::account;
 use layout::rows::Account;
-use seat::available_below;
-use seat::blocked_into;
-use seat::blocked_out;
-use seat::turnover_above;
-use seat::turnover_shut;
 use shape::value::Value;
 ghost use mathlib.Core.Path.{_≡_};
 ghost use lib.ListN.{length};

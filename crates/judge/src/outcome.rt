@@ -2,9 +2,9 @@
 use crate::case::Case;
 use crate::repeats::asked_after;
 use crate::values::or_zero;
+use journal::Earlier;
 use layout::rows::Settings;
 use layout::rows::Step;
-use seat::Earlier;
 use slip::Status;
 use slip::kind_number;
 use slip::status_number;
@@ -15,7 +15,7 @@ ghost use Prim.Native.Nat.{_≤_};
 ghost use lib.ListN.{length};
 ghost use Rattle.slip.specs.Meaning.{steps};
 ghost use Rattle.layout.specs.Seat.{seatLong, headOf};
-ghost use Rattle.seat.specs.Steps.{noSettings};
+ghost use Rattle.journal.specs.Steps.{noSettings};
 ghost use Rattle.judge.specs.Rows.{askedAfter};
 ghost use Rattle.judge.specs.Verdict.{transferred, toldOf, answered, endOf, carried, stepMade};
 

@@ -1,10 +1,10 @@
 // Checks 6, 10, 11, 17: what stands in earlier steps. The rules stand in `specs/Rows.antt`, one definition for each function.
 use crate::case::Case;
 use crate::values::agree;
+use journal::Earlier;
+use journal::Trace;
+use journal::earliest;
 use message::Message;
-use seat::Earlier;
-use seat::Trace;
-use seat::earliest;
 use shape::stored::same_identifier;
 use shape::stored::same_uetr;
 use shape::value::Value;

@@ -11,13 +11,13 @@ use Rattle.slip.specs.Meaning.{steps}
 use Rattle.layout.specs.declared.rows.Head.{Head}
 use Rattle.layout.specs.declared.rows.Step.{Step}
 use Rattle.layout.specs.Seat.{seatLong, headOf}
-use Rattle.seat.specs.Steps.{stepFits}
-use Rattle.seat.specs.Working.{possible}
+use Rattle.journal.specs.Steps.{stepFits}
+use Rattle.journal.specs.Working.{possible}
+use Rattle.journal.specs.Low.{Low}
+use Rattle.journal.proofs.Backed.{possible-fits}
 use Rattle.seat.specs.Fit.{seatFits}
-use Rattle.seat.specs.Low.{Low}
 use Rattle.seat.proofs.Kept.{fit-long, fit-open}
 use Rattle.seat.proofs.Forward.{fit-low}
-use Rattle.seat.proofs.Backed.{possible-fits}
 
 module _ (s : List ℕ) (b : Bool) (e : b ≡ seatFits s) (t : not b ≡ false) where
   pub fits : seatFits s ≡ true

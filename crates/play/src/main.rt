@@ -1,10 +1,12 @@
 // A small lesson in one seat of a room: open, set, record, take back, close, open. After each call it prints the answer's number, the
 // seat's head and what the four accounts of two owners hold: opening sum, balance, turnover, blocks, LTK, LPO.
-// The program only plays and prints; what each call does is proved in `seat`.
+// The program only plays and prints; what each call does is proved in `seat`, what a step does in `journal`.
 use directory::Found;
 use directory::Gathered;
 use directory::Kind;
 use directory::Participant;
+use journal::append;
+use journal::is_possible;
 use layout::ROOM_LONG;
 use layout::SEAT_LONG;
 use layout::account;
@@ -15,9 +17,7 @@ use libc::STDOUT_FILENO;
 use seat::Answer;
 use seat::Limit;
 use seat::Wish;
-use seat::append;
 use seat::close_seat;
-use seat::is_possible;
 use seat::open_seat;
 use seat::room_fits;
 use seat::seat_fits;

@@ -13,9 +13,9 @@ use Rattle.directory.specs.declared.Participant.{Participant}
 use Rattle.directory.specs.declared.Found.{Found}
 use Rattle.layout.specs.declared.rows.Settings.{Settings}
 use Rattle.layout.specs.Seat.{headOf}
+use Rattle.journal.specs.Steps.{settingsFit}
 use Rattle.seat.specs.declared.calls.Answer.{Answer}
 use Rattle.seat.specs.declared.calls.Answer.the-variants.{Done, NoTicket, AlreadyOpen, NoOpeningLeft, BadNumber, JournalFull, NothingToTakeBack}
-use Rattle.seat.specs.Steps.{settingsFit}
 use Rattle.seat.specs.Calls.{
   isDone,
   behind,

@@ -14,9 +14,9 @@ use Rattle.layout.specs.declared.rows.Account.{Account}
 use Rattle.layout.specs.declared.rows.Head.{Head}
 use Rattle.layout.specs.declared.rows.Step.{Step}
 use Rattle.layout.specs.Seat.{accounts, seatLong, headOf, accountOf}
-use Rattle.seat.specs.Low.{Low}
-use Rattle.seat.specs.Steps.{settingsFit, stepFits}
-use Rattle.seat.specs.Working.{lastStep}
+use Rattle.journal.specs.Low.{Low}
+use Rattle.journal.specs.Steps.{settingsFit, stepFits}
+use Rattle.journal.specs.Working.{lastStep}
 use Rattle.seat.specs.Fit.{openFits, seatFits}
 use Rattle.seat.specs.Calls.{noTicket, accountNamed, accountNumber, placeFits, setStep}
 use Rattle.seat.proofs.Forward.{open-fits, fit-low}

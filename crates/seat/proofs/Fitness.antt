@@ -13,8 +13,8 @@ use Rattle.shape.proofs.Tests.{and-false, or-cases}
 use Rattle.slip.specs.Meaning.{openings, steps}
 use Rattle.layout.specs.declared.rows.Head.{Head}
 use Rattle.layout.specs.Seat.{accounts, seatLong, headOf}
-use Rattle.seat.specs.Steps.{sumMost}
-use Rattle.seat.specs.Working.{journalOf, stepsFrom, worked}
+use Rattle.journal.specs.Steps.{sumMost}
+use Rattle.journal.specs.Working.{journalOf, stepsFrom, worked}
 use Rattle.seat.specs.Fit.{openSeat, sumsOf, comesOut, openFits, closedFits, seatFits}
 use Rattle.seat.proofs.Opened.{sums-length}
 

@@ -2,10 +2,10 @@
 -- from, so a fit seat stays fit by one step more and by its last step taken back.
 -- Assumes nothing.
 use mathlib.Core.Path.{_≡_, refl, sym, ap, subst, _∙_}
-use mathlib.Core.Bool.{Bool, true, false, _&&_, cond, false≢true}
+use mathlib.Core.Bool.{Bool, true, _&&_, false≢true}
 use mathlib.Core.List.{List, [], _∷_, _++_}
 use mathlib.Core.Option.{Option, none, some}
-use Prim.Native.Nat.{ℕ, zero, suc, _+_, _-_, _≤_, _<_}
+use Prim.Native.Nat.{ℕ, _+_, _-_, _≤_, _<_}
 use native.Mathlib.Omega.{arith}
 use lib.Dec.{leb, eqb}
 use lib.ListN.{length, length-append}
@@ -17,14 +17,14 @@ use Rattle.layout.specs.declared.rows.Head.{Head}
 use Rattle.layout.specs.declared.rows.Step.{Step}
 use Rattle.layout.specs.Parts.{part}
 use Rattle.layout.specs.Rows.{headRow, headIn}
-use Rattle.layout.specs.Seat.{accounts, seatLong, headOf, accountOf, stepOf}
-use Rattle.seat.specs.Steps.{sumMost, stepFits, noStep}
-use Rattle.seat.specs.Working.{counting, stepped, backed, possible, stepsFrom, journalOf, worked}
+use Rattle.layout.specs.Seat.{accounts, seatLong, headOf, stepOf}
+use Rattle.journal.specs.Steps.{sumMost, noStep}
+use Rattle.journal.specs.Working.{stepped, backed, possible, stepsFrom, journalOf, worked}
+use Rattle.journal.specs.Low.{Low}
+use Rattle.journal.proofs.Backed.{back-restores}
+use Rattle.journal.proofs.Grown.{Grown, grown-low}
+use Rattle.journal.proofs.WorkedLaws.{worked-none, worked-more, Last, worked-last, steps-length, Reached, reached, journal-long, journal-last}
 use Rattle.seat.specs.Fit.{same, closedSeat, openSeat, sumsOf, comesOut, openFits, closedFits}
-use Rattle.seat.specs.Low.{Low}
-use Rattle.seat.proofs.Changed.{stepped-length, stepped-head, stepped-last, stepped-other, stepped-opening}
-use Rattle.seat.proofs.Backed.{possible-fits, back-restores}
-use Rattle.seat.proofs.Grown.{Grown, grown-more, grown-low}
 use Rattle.seat.proofs.Opened.{
   opened-head,
   opened-length,
@@ -52,143 +52,6 @@ pub same-itself : (s : List ℕ) → same s s ≡ true
 unfolding same
 same-itself [] = refl
 same-itself (a ∷ s) = rw (eq-eqb a a refl, same-itself s)
-
--- working forward by one step
-pub worked-none : (s : List ℕ) → worked [] s ≡ some s
-unfolding worked
-worked-none s = refl
-
-worked-first : (x : Step) (xs : List Step) (s : List ℕ) → worked (x ∷ xs) s ≡ cond (possible x s) (worked xs (stepped x s)) none
-unfolding worked
-worked-first x xs s = refl
-
--- if a journal was worked, its first step was possible, and the others were worked behind it
-module _ (x : Step) (xs : List Step) (s t : List ℕ) (w : worked (x ∷ xs) s ≡ some t) where
-  by-test : (u : Bool) → possible x s ≡ u → cond u (worked xs (stepped x s)) none ≡ some t
-      → (possible x s ≡ true) × (worked xs (stepped x s) ≡ some t)
-  by-test true e v = (e, v)
-  by-test false e v = let z : _≡_ {A = ℕ} 0 1 = cc in absurd (omega arith)
-
-  both : (possible x s ≡ true) × (worked xs (stepped x s) ≡ some t)
-  both = by-test (possible x s) refl (sym (worked-first x xs s) ∙ w)
-
-  pub first-possible : possible x s ≡ true
-  first-possible = both .0
-
-  pub rest-worked : worked xs (stepped x s) ≡ some t
-  rest-worked = both .1
-
--- one step more at the end
-pub worked-more : (x : Step) (xs : List Step) (s t : List ℕ) → worked xs s ≡ some t → possible x t ≡ true
-    → worked (xs ++ (x ∷ [])) s ≡ some (stepped x t)
-worked-more x [] s t w p =
-    let here : s ≡ t = let at-once : some s ≡ some t = sym (worked-none s) ∙ w in cc in
-    worked-first x [] s ∙ rw (here, p) (worked-none (stepped x t))
-worked-more x (y ∷ xs) s t w p =
-    worked-first y (xs ++ (x ∷ [])) s
-    ∙ rw (first-possible y xs s t w) (worked-more x xs (stepped y s) t (rest-worked y xs s t w) p)
-
--- the last step of what was worked
-pub record Last (x : Step) (xs : List Step) (s t : List ℕ) : Type 0 where
-  pub behind : List ℕ
-  pub before : worked xs s ≡ some behind
-  pub can : possible x behind ≡ true
-  pub comes : stepped x behind ≡ t
-
-pub worked-last : (x : Step) (xs : List Step) (s t : List ℕ) → worked (xs ++ (x ∷ [])) s ≡ some t → Last x xs s t
-worked-last x [] s t w =
-    let at-once : some (stepped x s) ≡ some t = sym (worked-none (stepped x s)) ∙ rest-worked x [] s t w in
-    record { behind = s; before = worked-none s; can = first-possible x [] s t w; comes = cc }
-worked-last x (y ∷ xs) s t w =
-    let rest : Last x xs (stepped y s) t = worked-last x xs (stepped y s) t (rest-worked y (xs ++ (x ∷ [])) s t w) in
-    record {
-      behind = rest .behind;
-      before = worked-first y xs s ∙ rw (first-possible y (xs ++ (x ∷ [])) s t w) (rest .before);
-      can = rest .can;
-      comes = rest .comes;
-    }
-
--- the steps of a journal
-pub steps-length : (s : List ℕ) (k n : ℕ) → length (stepsFrom s k n) ≡ n
-unfolding stepsFrom
-steps-length s k zero = refl
-steps-length s k (suc n) = ap suc (steps-length s (suc k) n)
-
-pub steps-more : (s : List ℕ) (k n : ℕ) → stepsFrom s k (suc n) ≡ stepsFrom s k n ++ (stepOf s (k + n) ∷ [])
-unfolding stepsFrom
-steps-more s k zero = let here : k ≡ k + 0 = omega arith in ap (λ (p : ℕ). stepOf s p ∷ []) here
-steps-more s k (suc n) =
-    let over : suc k + n ≡ k + suc n = omega arith in
-    ap (λ (ys : List Step). stepOf s k ∷ ys) (steps-more s (suc k) n ∙ ap (λ (p : ℕ). stepsFrom s (suc k) n ++ (stepOf s p ∷ [])) over)
-
-pub same-steps : (s t : List ℕ) (k n : ℕ) → ((p : ℕ) → k ≤ p → p < k + n → stepOf s p ≡ stepOf t p) → stepsFrom s k n ≡ stepsFrom t k n
-unfolding stepsFrom
-same-steps s t k zero alike = refl
-same-steps s t k (suc n) alike =
-    rw (
-      alike k (omega arith) (omega arith),
-      same-steps s t (suc k) n (λ (p : ℕ) (a : suc k ≤ p) (b : p < suc k + n). alike p (omega arith) (omega arith)),
-    )
-
--- a seat t that was worked from s by these steps
-pub record Reached (xs : List Step) (s t : List ℕ) : Type 0 where
-  pub long : length t ≡ seatLong
-  pub head : headOf t ≡ counting (headOf s .steps + length xs) (headOf s)
-  pub journal : stepsFrom t (headOf s .steps) (length xs) ≡ xs
-  pub ahead : (k : ℕ) → k < headOf s .steps → stepOf t k ≡ stepOf s k
-  pub rest : (k : ℕ) → headOf s .steps + length xs ≤ k → k < steps → stepOf t k ≡ stepOf s k
-  pub sums : (i : ℕ) → i < accounts → accountOf t i .opening ≡ accountOf s i .opening
-  pub grown : (n : ℕ) → Grown n s → Grown (n + length xs) t
-
-reached-none : (s : List ℕ) → length s ≡ seatLong → Reached [] s s
-unfolding stepsFrom
-reached-none s l =
-    let same-count : headOf s .steps + 0 ≡ headOf s .steps = omega arith in
-    record {
-      long = l;
-      head = ap (λ (n : ℕ). counting n (headOf s)) (sym same-count);
-      journal = refl;
-      ahead = λ (k : ℕ) (h : k < headOf s .steps). refl;
-      rest = λ (k : ℕ) (a : headOf s .steps + 0 ≤ k) (b : k < steps). refl;
-      sums = λ (i : ℕ) (h : i < accounts). refl;
-      grown = λ (n : ℕ) (g : Grown n s). let none-more : n ≡ n + 0 = omega arith in subst (λ (m : ℕ). Grown m s) none-more g;
-    }
-
-reached-first : (x : Step) (xs : List Step) (s t : List ℕ) → length s ≡ seatLong → headOf s .steps < steps → stepFits x ≡ true
-    → Reached xs (stepped x s) t → Reached (x ∷ xs) s t
-unfolding stepsFrom
-reached-first x xs s t l b e r =
-    let after : headOf (stepped x s) ≡ counting (suc (headOf s .steps)) (headOf s) = stepped-head x s l e b in
-    let count : headOf (stepped x s) .steps ≡ suc (headOf s .steps) = ap (λ (h : Head). h .steps) after in
-    let sum : headOf (stepped x s) .steps + length xs ≡ headOf s .steps + suc (length xs) = omega arith in
-    let here : stepOf t (headOf s .steps) ≡ x = r .ahead (headOf s .steps) (omega arith) ∙ stepped-last x s l e b in
-    let behind : stepsFrom t (suc (headOf s .steps)) (length xs) ≡ xs =
-    subst (λ (k : ℕ). stepsFrom t k (length xs) ≡ xs) count (r .journal) in
-    record {
-      long = r .long;
-      head = r .head ∙ rw (sum, after);
-      journal = rw (here, behind);
-      ahead = λ (k : ℕ) (h : k < headOf s .steps).
-          r .ahead k (omega arith) ∙ stepped-other x s l e b k (omega arith) (λ (q : headOf s .steps ≡ k). omega arith);
-      rest = λ (k : ℕ) (h : headOf s .steps + suc (length xs) ≤ k) (c : k < steps).
-          r .rest k (omega arith) c ∙ stepped-other x s l e b k c (λ (q : headOf s .steps ≡ k). omega arith);
-      sums = λ (i : ℕ) (h : i < accounts). r .sums i h ∙ stepped-opening x s l e b i h;
-      grown = λ (n : ℕ) (g : Grown n s).
-          let over : suc n + length xs ≡ n + suc (length xs) = omega arith in
-          subst (λ (m : ℕ). Grown m t) over (r .grown (suc n) (grown-more x n s g e b));
-    }
-
-pub reached : (xs : List Step) (s t : List ℕ) → length s ≡ seatLong → headOf s .steps + length xs ≤ steps → worked xs s ≡ some t → Reached xs s t
-reached [] s t l b w =
-    let here : s ≡ t = let at-once : some s ≡ some t = sym (worked-none s) ∙ w in cc in
-    subst (λ (u : List ℕ). Reached [] s u) here (reached-none s l)
-reached (x ∷ xs) s t l b w =
-    let p : possible x s ≡ true = first-possible x xs s t w in
-    let e : stepFits x ≡ true = possible-fits x s p in
-    let room : headOf s .steps < steps = omega arith in
-    let count : headOf (stepped x s) .steps ≡ suc (headOf s .steps) = ap (λ (h : Head). h .steps) (stepped-head x s l e room) in
-    reached-first x xs s t l room e
-    (reached xs (stepped x s) t (stepped-length x s l e room) (omega arith) (rest-worked x xs s t w))
 
 -- a seat that was opened and worked: its count, opening number, journal and opening sums are those that it was worked from
 module _ (opening : ℕ) (sums : List ℕ) (xs : List Step) (t : List ℕ) (few : length xs ≤ steps)
@@ -296,10 +159,6 @@ pub sums-long : (s : List ℕ) → length (sumsOf s) ≡ accounts
 unfolding sumsOf
 sums-long s = sums-length s 0 accounts
 
-pub journal-long : (s : List ℕ) → length (journalOf s) ≡ headOf s .steps
-unfolding journalOf
-journal-long s = steps-length s 0 (headOf s .steps)
-
 -- one step more
 pub fit-more : (x : Step) (s : List ℕ) → length s ≡ seatLong → openFits s ≡ true → headOf s .steps < steps → possible x s ≡ true
     → openFits (stepped x s) ≡ true
@@ -309,17 +168,6 @@ fit-more x s l e b p =
     let more : length (journalOf s ++ (x ∷ [])) ≡ length (journalOf s) + 1 = length-append (journalOf s) (x ∷ []) in
     fit-made (headOf s .opening) (sumsOf s) (journalOf s ++ (x ∷ [])) (stepped x s) (f .least) (f .most) (sums-long s) (f .sums) (omega arith)
     (worked-more x (journalOf s) (openSeat (headOf s .opening) (sumsOf s)) s (f .comes) p)
-
--- a journal that has steps, with its last one apart
-pub journal-last : (s : List ℕ) → 1 ≤ headOf s .steps
-    → journalOf s ≡ stepsFrom s 0 (headOf s .steps - 1) ++ (stepOf s (headOf s .steps - 1) ∷ [])
-unfolding journalOf
-journal-last s h =
-    let more : headOf s .steps ≡ suc (headOf s .steps - 1) = omega arith in
-    let from-none : 0 + (headOf s .steps - 1) ≡ headOf s .steps - 1 = omega arith in
-    ap (λ (n : ℕ). stepsFrom s 0 n) more
-    ∙ steps-more s 0 (headOf s .steps - 1)
-    ∙ ap (λ (k : ℕ). stepsFrom s 0 (headOf s .steps - 1) ++ (stepOf s k ∷ [])) from-none
 
 -- the last step taken back: what comes out is the seat before that step
 pub fit-back : (s : List ℕ) → length s ≡ seatLong → openFits s ≡ true → 1 ≤ headOf s .steps → openFits (backed s) ≡ true

@@ -23,9 +23,11 @@ use Rattle.layout.specs.declared.rows.Step.{Step}
 use Rattle.layout.specs.Parts.{part}
 use Rattle.layout.specs.Rows.{headRow, headIn}
 use Rattle.layout.specs.Seat.{places, accounts, seatLong, roomLong, headOf, accountOf, seatOf}
+use Rattle.journal.specs.Steps.{sumMost, settingsFit, noMessage, noMovement, setFits, stepFits}
+use Rattle.journal.specs.Working.{stepped, backed, covered, possible, journalOf}
+use Rattle.journal.proofs.StepLaws.{settings-same}
+use Rattle.journal.proofs.WorkedLaws.{journal-long}
 use Rattle.seat.specs.declared.calls.Answer.the-variants.{Done}
-use Rattle.seat.specs.Steps.{sumMost, settingsFit, noMessage, noMovement, setFits, stepFits}
-use Rattle.seat.specs.Working.{stepped, backed, covered, possible, journalOf}
 use Rattle.seat.specs.Fit.{same, closedSeat, openSeat, sumsOf, openFits, closedFits, seatFits, roomFits}
 use Rattle.seat.specs.Calls.{
   pairGood,
@@ -43,9 +45,8 @@ use Rattle.seat.specs.Calls.{
   backAnswer,
   backAfter,
 }
-use Rattle.seat.proofs.StepLaws.{settings-same}
 use Rattle.seat.proofs.Opened.{opened-head}
-use Rattle.seat.proofs.Forward.{open-fits, made, journal-long, fit-more, fit-back, fit-opened, fit-closed}
+use Rattle.seat.proofs.Forward.{open-fits, made, fit-more, fit-back, fit-opened, fit-closed}
 use Rattle.seat.proofs.Reached.{fit-settings}
 use Rattle.seat.proofs.Answered.{behind-keeps, ticket-good, open-done, set-done, back-done}
 

@@ -1,14 +1,9 @@
-pub mod Above
 pub mod Answered
 pub mod Asked
-pub mod Backed
-pub mod Changed
 pub mod Compared
 pub mod Fitness
 pub mod Forward
-pub mod Grown
 pub mod Kept
-pub mod Moves
 pub mod Named
 pub mod Opened
 pub mod Opening
@@ -17,8 +12,6 @@ pub mod Reached
 pub mod Refusals
 pub mod Rooms
 pub mod Settled
-pub mod StepLaws
-pub mod Sums
 pub mod Traces
 pub mod Turns
 pub mod Undone

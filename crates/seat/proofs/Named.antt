@@ -15,7 +15,7 @@ use Rattle.directory.specs.declared.Found.the-variants.{At, Missing}
 use Rattle.directory.specs.Directory.{ownerFound}
 use Rattle.layout.specs.declared.rows.Settings.{Settings}
 use Rattle.layout.specs.Seat.{places, accounts}
-use Rattle.seat.specs.Steps.{settingsFit, noMessage, noMovement, setFits, stepFits}
+use Rattle.journal.specs.Steps.{settingsFit, noMessage, noMovement, setFits, stepFits}
 use Rattle.seat.specs.Calls.{accountNamed, accountNumber, accountFound, placeFits, setStep}
 
 pub place-low : (f : Found) (place : ℕ) (p : Participant) → f ≡ At place p → placeFits f ≡ true → place < 16

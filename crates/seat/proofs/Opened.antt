@@ -19,9 +19,9 @@ use Rattle.layout.specs.Rows.{headLong, headRow, headIn, accountLong, accountRo
 use Rattle.layout.specs.Seat.{accounts, stepFrom, seatLong, headOf, accountOf, stepOf}
 use Rattle.layout.proofs.RowLaws.{head-length, account-length, account-read}
 use Rattle.layout.proofs.Seats.{same-seat}
-use Rattle.seat.specs.Steps.{sumMost, noStep}
+use Rattle.journal.specs.Steps.{sumMost, noStep}
+use Rattle.journal.proofs.Grown.{Grown}
 use Rattle.seat.specs.Fit.{openAccount, openAccounts, openSeat, sumsFrom, sumsOf}
-use Rattle.seat.proofs.Grown.{Grown}
 
 -- the head of an opened seat
 abbrev pub openHead : ℕ → Head

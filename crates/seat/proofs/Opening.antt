@@ -13,7 +13,7 @@ use Rattle.layout.specs.declared.rows.Settings.{Settings}
 use Rattle.layout.specs.Parts.{put}
 use Rattle.layout.specs.Rows.{headRow, accountRow, accountLong, stepLong}
 use Rattle.layout.specs.Seat.{accounts, seatLong, accountOf, withHead, withAccount}
-use Rattle.seat.specs.Steps.{noSettings}
+use Rattle.journal.specs.Steps.{noSettings}
 use Rattle.seat.specs.Fit.{openAccount, openAccounts, openSeat, sumsFrom, sumsOf}
 
 -- what is put behind the first of two lists is put into the second

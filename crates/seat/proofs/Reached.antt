@@ -2,12 +2,11 @@
 -- journal is free, and its balances sum up to what it was opened with.
 -- Assumes nothing.
 use mathlib.Core.Path.{_≡_, refl, sym, ap, subst, _∙_}
-use mathlib.Core.Bool.{Bool, true, false, cond}
-use mathlib.Core.List.{List, [], _∷_}
+use mathlib.Core.Bool.{true}
+use mathlib.Core.List.{List}
 use mathlib.Core.Option.{some}
 use Prim.Native.Nat.{ℕ, zero, suc, _+_, _-_, _≤_, _<_}
 use native.Mathlib.Omega.{arith}
-use lib.Dec.{eqb}
 use lib.ListN.{length}
 use Rattle.shape.specs.Bits.{total}
 use Rattle.slip.specs.Meaning.{steps}
@@ -15,27 +14,16 @@ use Rattle.layout.specs.declared.rows.Head.{Head}
 use Rattle.layout.specs.declared.rows.Account.{Account}
 use Rattle.layout.specs.declared.rows.Step.{Step}
 use Rattle.layout.specs.Seat.{accounts, seatLong, headOf, accountOf, stepOf}
-use Rattle.seat.specs.Steps.{settingsFit, stepFits, noSettings, noStep}
-use Rattle.seat.specs.Working.{settled, debited, credited, turned, stepped, lastStep, possible, stepsFrom, journalOf, worked}
+use Rattle.journal.specs.Steps.{settingsFit, stepFits, noStep}
+use Rattle.journal.specs.Working.{stepped, lastStep, possible, stepsFrom, journalOf, worked}
+use Rattle.journal.proofs.Changed.{sort, stepped-account}
+use Rattle.journal.proofs.Backed.{possible-fits}
+use Rattle.journal.proofs.Sums.{balancesFrom, balances-stay}
+use Rattle.journal.proofs.WorkedLaws.{Last, worked-last, journal-long, journal-last, worked-keeps}
+use Rattle.journal.proofs.Settings.{after-settings, no-settings-fit}
 use Rattle.seat.specs.Fit.{openSeat, sumsFrom, sumsOf, openFits}
-use Rattle.seat.proofs.StepLaws.{set-given}
-use Rattle.seat.proofs.Changed.{Sort, sets, rests, turns, moves, sort, after, stepped-length, stepped-head, stepped-account}
-use Rattle.seat.proofs.Backed.{possible-fits}
-use Rattle.seat.proofs.Sums.{balancesFrom, balances-stay}
 use Rattle.seat.proofs.Opened.{opened-head, opened-length, opened-account, opened-sums}
-use Rattle.seat.proofs.Forward.{
-  Fits,
-  open-fits,
-  Last,
-  worked-none,
-  first-possible,
-  rest-worked,
-  worked-last,
-  made-free,
-  sums-long,
-  journal-long,
-  journal-last,
-}
+use Rattle.seat.proofs.Forward.{Fits, open-fits, made-free, sums-long}
 
 -- the last step of a seat that fits
 pub fit-last : (s : List ℕ) → length s ≡ seatLong → openFits s ≡ true → 1 ≤ headOf s .steps → stepFits (lastStep s) ≡ true
@@ -54,20 +42,6 @@ fit-free s l e b =
     let long : length (journalOf s) ≡ headOf s .steps = journal-long s in
     made-free (headOf s .opening) (sumsOf s) (journalOf s) s (omega arith) (f .comes) (headOf s .steps) (omega arith) b
 
--- what each possible step keeps is kept by all of a journal
-worked-keeps : (P : List ℕ → Type 0)
-    → ((x : Step) (s : List ℕ) → length s ≡ seatLong → headOf s .steps < steps → possible x s ≡ true → P s → P (stepped x s))
-    → (xs : List Step) (s t : List ℕ) → length s ≡ seatLong → headOf s .steps + length xs ≤ steps → worked xs s ≡ some t → P s → P t
-worked-keeps P keeps [] s t l b w p =
-    let here : s ≡ t = let at-once : some s ≡ some t = sym (worked-none s) ∙ w in cc in
-    subst P here p
-worked-keeps P keeps (x ∷ xs) s t l b w p =
-    let can : possible x s ≡ true = first-possible x xs s t w in
-    let e : stepFits x ≡ true = possible-fits x s can in
-    let room : headOf s .steps < steps = omega arith in
-    let count : headOf (stepped x s) .steps ≡ suc (headOf s .steps) = ap (λ (h : Head). h .steps) (stepped-head x s l e room) in
-    worked-keeps P keeps xs (stepped x s) t (stepped-length x s l e room) (omega arith) (rest-worked x xs s t w) (keeps x s l room can p)
-
 -- and so by a seat that fits, from its opening on
 fit-keeps : (P : List ℕ → Type 0)
     → ((x : Step) (s : List ℕ) → length s ≡ seatLong → headOf s .steps < steps → possible x s ≡ true → P s → P (stepped x s))
@@ -80,34 +54,6 @@ fit-keeps P keeps s e p =
     ap (λ (h : Head). h .steps) (opened-head (headOf s .opening) (sumsOf s)) in
     worked-keeps P keeps (journalOf s) (openSeat (headOf s .opening) (sumsOf s)) s (opened-length (headOf s .opening) (sumsOf s)) (omega arith)
     (f .comes) p
-
--- settings stay, or are those that a set gives
-after-settings : (x : Step) (j : ℕ) (a : Account) → stepFits x ≡ true → settingsFit (a .settings) ≡ true → Sort x
-    → settingsFit (after x j a .settings) ≡ true
-unfolding after
-after-settings x j a e p (sets k b) = rw k (go (eqb (x .account) j))
-  where
-    go : (t : Bool) → settingsFit (cond t (settled (x .given) a) a .settings) ≡ true
-    go true = set-given x e k
-    go false = p
-after-settings x j a e p (rests k n) = rw (k, n) p
-after-settings x j a e p (turns k n q b m) = rw (k, n, q) (go (eqb (x .debit) j))
-  where
-    go : (t : Bool) → settingsFit (cond t (turned (x .amount) a) a .settings) ≡ true
-    go true = p
-    go false = p
-after-settings x j a e p (moves k n q b c m) = rw (k, n, q) (go (eqb (x .credit) j) (eqb (x .debit) j))
-  where
-    go : (t u : Bool)
-        → settingsFit (cond t (credited (x .amount) (cond u (debited (x .amount) a) a)) (cond u (debited (x .amount) a) a) .settings) ≡ true
-    go true true = p
-    go true false = p
-    go false true = p
-    go false false = p
-
-no-settings-fit : settingsFit noSettings ≡ true
-unfolding settingsFit
-no-settings-fit = refl
 
 -- the settings of a seat that fits
 pub fit-settings : (s : List ℕ) → length s ≡ seatLong → openFits s ≡ true → (i : ℕ) → i < accounts → settingsFit (accountOf s i .settings) ≡ true

@@ -15,11 +15,11 @@ use Rattle.layout.specs.declared.rows.Account.{Account}
 use Rattle.layout.specs.declared.rows.Head.{Head}
 use Rattle.layout.specs.declared.rows.Step.{Step}
 use Rattle.layout.specs.Seat.{seatLong, headOf, withHead, accountOf}
+use Rattle.journal.specs.Steps.{settingsFit}
+use Rattle.journal.specs.Working.{stepped, backed}
 use Rattle.seat.specs.declared.calls.Answer.{Answer}
 use Rattle.seat.specs.declared.calls.Answer.the-variants.{Done, NoTicket, AlreadyOpen, NoOpeningLeft, BadNumber, JournalFull, NothingToTakeBack}
 use Rattle.seat.specs.declared.calls.Reading.{Reading}
-use Rattle.seat.specs.Steps.{settingsFit}
-use Rattle.seat.specs.Working.{stepped, backed}
 use Rattle.seat.specs.Fit.{closedSeat, openSeat}
 use Rattle.seat.specs.Calls.{isDone, noTicket, sumsGood, openAnswer, openAfter, closeAnswer, closeAfter, accountNamed, accountNumber, setStep, setAnswer, setAfter, backAnswer, backAfter, noAccount, readAnswer, readValue}
 use Rattle.seat.proofs.Zeros.{seat-zeros, closed-made}

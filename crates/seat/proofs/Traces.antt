@@ -1,88 +1,25 @@
--- What is found in a journal: the step that is found leaves the trace that was looked for, and in a fit seat it fits, as each step there was
--- possible when it was worked. One turn of the loop that looks leaves what is found as it was, with one step less to go.
+-- What is found in the journal of a fit seat fits, as each step there was possible when it was worked.
 -- Assumes nothing.
-use mathlib.Core.Path.{_≡_, refl, ap, subst, _∙_}
-use mathlib.Core.Bool.{Bool, true, false, cond}
-use mathlib.Core.List.{List, [], _∷_}
-use mathlib.Core.Option.{some}
-use Prim.Native.Nat.{ℕ, _+_, _-_, _≤_, _<_}
-use native.Mathlib.Omega.{arith}
+use mathlib.Core.Path.{_≡_}
+use mathlib.Core.Bool.{true}
+use mathlib.Core.List.{List}
+use Prim.Native.Nat.{ℕ}
 use Rattle.shape.specs.Bytes.{every}
-use Rattle.shape.proofs.Tests.{and-left, and-right}
-use Rattle.layout.specs.declared.rows.Head.{Head}
 use Rattle.layout.specs.declared.rows.Step.{Step}
-use Rattle.layout.specs.Seat.{headOf, stepOf}
-use Rattle.seat.specs.declared.journal.Trace.{Trace}
-use Rattle.seat.specs.declared.journal.Earlier.{Earlier}
-use Rattle.seat.specs.declared.journal.Earlier.the-variants.{Of, None}
-use Rattle.seat.specs.Steps.{stepFits}
-use Rattle.seat.specs.Working.{stepped, stepsFrom, journalOf, worked}
+use Rattle.layout.specs.Seat.{headOf}
+use Rattle.journal.specs.declared.traces.Trace.{Trace}
+use Rattle.journal.specs.declared.traces.Earlier.the-variants.{Of}
+use Rattle.journal.specs.Steps.{stepFits}
+use Rattle.journal.specs.Working.{journalOf}
+use Rattle.journal.specs.Traces.{earliest}
+use Rattle.journal.proofs.WorkedLaws.{worked-fits}
+use Rattle.journal.proofs.TraceLaws.{first-fits}
 use Rattle.seat.specs.Fit.{openSeat, sumsOf, openFits}
-use Rattle.seat.specs.Journal.{leaves, firstIn, earliest}
-use Rattle.seat.proofs.Backed.{possible-fits}
-use Rattle.seat.proofs.Forward.{open-fits, first-possible, rest-worked}
-use Rattle.seat.proofs.Turns.{steps-left}
-
--- each step that was worked was possible
-worked-fits : (xs : List Step) (s t : List ℕ) → worked xs s ≡ some t → every stepFits xs ≡ true
-worked-fits [] s t w = refl
-worked-fits (x ∷ xs) s t w =
-    rw (possible-fits x s (first-possible x xs s t w)) (worked-fits xs (stepped x s) t (rest-worked x xs s t w))
+use Rattle.seat.proofs.Forward.{open-fits}
 
 pub journal-fits : (s : List ℕ) → openFits s ≡ true → every stepFits (journalOf s) ≡ true
 journal-fits s e = worked-fits (journalOf s) (openSeat (headOf s .opening) (sumsOf s)) s (open-fits s e .comes)
 
--- what is found is the step at hand, or is found behind it
-found-cases : (P : Step → Type 0) (t : Bool) (y : Step) (rest : Earlier) (x : Step) → (t ≡ true → P y) → (rest ≡ Of x → P x)
-    → cond t (Of y) rest ≡ Of x → P x
-found-cases P true y rest x here behind e =
-    let same : y ≡ x = cc in
-    subst P same (here refl)
-found-cases P false y rest x here behind e = behind e
-
-pub first-leaves : (trace : Trace) (xs : List Step) (x : Step) → firstIn trace xs ≡ Of x → leaves trace x ≡ true
-unfolding firstIn
-first-leaves trace [] x e = let z : _≡_ {A = ℕ} 0 1 = cc in absurd (omega arith)
-first-leaves trace (y ∷ xs) x e =
-    found-cases (λ (z : Step). leaves trace z ≡ true) (leaves trace y) y (firstIn trace xs) x (λ (h : leaves trace y ≡ true). h)
-    (first-leaves trace xs x) e
-
-first-fits : (trace : Trace) (xs : List Step) (x : Step) → every stepFits xs ≡ true → firstIn trace xs ≡ Of x → stepFits x ≡ true
-unfolding firstIn
-first-fits trace [] x f e = let z : _≡_ {A = ℕ} 0 1 = cc in absurd (omega arith)
-first-fits trace (y ∷ xs) x f e =
-    found-cases (λ (z : Step). stepFits z ≡ true) (leaves trace y) y (firstIn trace xs) x
-    (λ (h : leaves trace y ≡ true). and-left (stepFits y) (every stepFits xs) f)
-    (first-fits trace xs x (and-right (stepFits y) (every stepFits xs) f)) e
-
-pub earliest-leaves : (trace : Trace) (s : List ℕ) (x : Step) → earliest trace s ≡ Of x → leaves trace x ≡ true
-unfolding earliest
-earliest-leaves trace s x e = first-leaves trace (journalOf s) x e
-
 pub earliest-fits : (trace : Trace) (s : List ℕ) (x : Step) → openFits s ≡ true → earliest trace s ≡ Of x → stepFits x ≡ true
 unfolding earliest
 earliest-fits trace s x f e = first-fits trace (journalOf s) x (journal-fits s f) e
-
--- the loop that looks: at its start, one turn, and at its end
-pub look-begin : (trace : Trace) (s : List ℕ) (h : Head) → h ≡ headOf s → earliest trace s ≡ firstIn trace (stepsFrom s 0 (h .steps - 0))
-unfolding earliest journalOf
-look-begin trace s h read =
-    let same : h .steps ≡ headOf s .steps = ap (λ (g : Head). g .steps) read in
-    ap (λ (n : ℕ). firstIn trace (stepsFrom s 0 n)) (omega (arith, same))
-
-module _ (trace : Trace) (s : List ℕ) (x : Step) (k n : ℕ) (here : k < n) (read : x ≡ stepOf s k) where
-  look-turn : firstIn trace (stepsFrom s k (n - k)) ≡ cond (leaves trace x) (Of x) (firstIn trace (stepsFrom s (k + 1) (n - (k + 1))))
-  unfolding firstIn
-  look-turn = rw (steps-left s k n here, read)
-
-  pub look-hit : leaves trace x ≡ true → firstIn trace (stepsFrom s k (n - k)) ≡ Of x
-  look-hit e = look-turn ∙ rw e
-
-  pub look-miss : leaves trace x ≡ false → firstIn trace (stepsFrom s k (n - k)) ≡ firstIn trace (stepsFrom s (k + 1) (n - (k + 1)))
-  look-miss e = look-turn ∙ rw e
-
-pub look-end : (trace : Trace) (s : List ℕ) (k n : ℕ) → n ≤ k → firstIn trace (stepsFrom s k (n - k)) ≡ None
-unfolding firstIn stepsFrom
-look-end trace s k n h =
-    let nothing : n - k ≡ 0 = omega arith in
-    rw nothing

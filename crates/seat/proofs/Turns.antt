@@ -1,9 +1,8 @@
 -- One turn of the loop that works a journal forward: what comes out is what comes out of the steps that are left, and no number is high.
 -- Assumes nothing.
 use mathlib.Core.Path.{_≡_, sym, ap, subst, _∙_}
-use mathlib.Core.Bool.{Bool, true, false, cond}
-use mathlib.Core.List.{List, _∷_}
-use mathlib.Core.Option.{none, some}
+use mathlib.Core.Bool.{Bool, true, false}
+use mathlib.Core.List.{List}
 use Prim.Native.Nat.{ℕ, suc, _+_, _-_, _≤_, _<_}
 use native.Mathlib.Omega.{arith}
 use native.Mathlib.Numerals.{add-one}
@@ -13,37 +12,14 @@ use Rattle.slip.specs.Meaning.{steps}
 use Rattle.layout.specs.declared.rows.Head.{Head}
 use Rattle.layout.specs.declared.rows.Step.{Step}
 use Rattle.layout.specs.Seat.{headOf, stepOf}
-use Rattle.seat.specs.Steps.{sumMost, stepFits}
-use Rattle.seat.specs.Working.{stepped, possible, stepsFrom, worked}
+use Rattle.journal.specs.Steps.{sumMost, stepFits}
+use Rattle.journal.specs.Working.{stepped, possible, stepsFrom, worked}
+use Rattle.journal.proofs.Changed.{stepped-head}
+use Rattle.journal.proofs.Backed.{possible-fits}
+use Rattle.journal.proofs.Grown.{Grown, grown-more}
+use Rattle.journal.proofs.WorkedLaws.{work-hit, work-miss, work-end}
 use Rattle.seat.specs.Fit.{same, openSeat, comesOut}
-use Rattle.seat.proofs.Changed.{stepped-head}
-use Rattle.seat.proofs.Backed.{possible-fits}
-use Rattle.seat.proofs.Grown.{Grown, grown-more}
 use Rattle.seat.proofs.Opened.{opened-head, opened-grown}
-
--- the steps that are left: the k-th and those behind it
-pub steps-left : (s : List ℕ) (k n : ℕ) → k < n → stepsFrom s k (n - k) ≡ stepOf s k ∷ stepsFrom s (k + 1) (n - (k + 1))
-unfolding stepsFrom
-steps-left s k n h =
-    let one : n - k ≡ suc (n - (k + 1)) = omega arith in
-    rw one (ap (λ (j : ℕ). stepOf s k ∷ stepsFrom s j (n - (k + 1))) (sym (add-one k)))
-
-module _ (s t : List ℕ) (x : Step) (k n : ℕ) (h : k < n) (read : x ≡ stepOf s k) where
-  work-turn : worked (stepsFrom s k (n - k)) t ≡ cond (possible x t) (worked (stepsFrom s (k + 1) (n - (k + 1))) (stepped x t)) none
-  unfolding worked
-  work-turn = rw (steps-left s k n h, read)
-
-  work-hit : possible x t ≡ true → worked (stepsFrom s k (n - k)) t ≡ worked (stepsFrom s (k + 1) (n - (k + 1))) (stepped x t)
-  work-hit e = work-turn ∙ rw e
-
-  pub work-miss : possible x t ≡ false → worked (stepsFrom s k (n - k)) t ≡ none
-  work-miss e = work-turn ∙ rw e
-
-pub work-end : (s t : List ℕ) (k n : ℕ) → n ≤ k → worked (stepsFrom s k (n - k)) t ≡ some t
-unfolding worked stepsFrom
-work-end s t k n h =
-    let nothing : n - k ≡ 0 = omega arith in
-    rw nothing
 
 -- what holds before each turn
 pub record Worked (s : List ℕ) (opening count : ℕ) (sums t : List ℕ) (k : ℕ) : Type 0 where

@@ -14,8 +14,10 @@ use Rattle.layout.specs.declared.rows.Head.{Head}
 use Rattle.layout.specs.declared.rows.Settings.{Settings}
 use Rattle.layout.specs.declared.rows.Step.{Step}
 use Rattle.layout.specs.Seat.{seatLong, headOf, accountOf}
+use Rattle.journal.specs.Working.{counting, stepped, backed, possible}
+use Rattle.journal.proofs.Changed.{stepped-head}
+use Rattle.journal.proofs.Backed.{possible-fits, back-restores}
 use Rattle.seat.specs.declared.calls.Answer.the-variants.{Done}
-use Rattle.seat.specs.Working.{counting, stepped, backed, possible}
 use Rattle.seat.specs.Fit.{closedSeat, openSeat, openFits, seatFits}
 use Rattle.seat.specs.Calls.{
   noTicket,
@@ -31,8 +33,6 @@ use Rattle.seat.specs.Calls.{
   backAnswer,
   backAfter,
 }
-use Rattle.seat.proofs.Changed.{stepped-head}
-use Rattle.seat.proofs.Backed.{possible-fits, back-restores}
 use Rattle.seat.proofs.Opened.{opened-head}
 use Rattle.seat.proofs.Reached.{fit-free}
 use Rattle.seat.proofs.Answered.{behind-done, ticket-good, good-ticket, open-done, set-done, back-done, done-back}

@@ -16,13 +16,13 @@ use Rattle.layout.specs.declared.rows.Settings.{Settings}
 use Rattle.layout.specs.declared.rows.Account.{Account}
 use Rattle.layout.specs.declared.rows.Step.{Step}
 use Rattle.layout.specs.Seat.{places, headOf, accountOf}
+use Rattle.journal.specs.Steps.{setKind, sumMost, settingsFit, noSettings, noIdentifier}
+use Rattle.journal.specs.Working.{stepped, backed}
 use Rattle.seat.specs.declared.calls.Answer.{Answer}
 use Rattle.seat.specs.declared.calls.Answer.the-variants.{Done, NoTicket, AlreadyOpen, NoOpeningLeft, BadNumber, JournalFull, NothingToTakeBack}
 use Rattle.seat.specs.declared.calls.Limit.{Limit}
 use Rattle.seat.specs.declared.calls.Limit.the-variants as limit
 use Rattle.seat.specs.declared.calls.Wish.{Wish}
-use Rattle.seat.specs.Steps.{setKind, sumMost, settingsFit, noSettings, noIdentifier}
-use Rattle.seat.specs.Working.{stepped, backed}
 use Rattle.seat.specs.Fit.{closedSeat, openSeat}
 
 -- document 01's numbers

@@ -13,8 +13,8 @@ use Rattle.layout.specs.declared.rows.Head.{Head}
 use Rattle.layout.specs.declared.rows.Account.{Account}
 use Rattle.layout.specs.Rows.{headRow, accountRow, stepLong}
 use Rattle.layout.specs.Seat.{accounts, seatLong, roomLong, headOf, accountOf, seatOf}
-use Rattle.seat.specs.Steps.{sumMost, noSettings}
-use Rattle.seat.specs.Working.{journalOf, worked}
+use Rattle.journal.specs.Steps.{sumMost, noSettings}
+use Rattle.journal.specs.Working.{journalOf, worked}
 
 -- two lists of numbers are the same
 unfoldable pub same : List ℕ → List ℕ → Bool

@@ -1,17 +1,17 @@
 // The calls of one seat that need no message: open, close, set, take back, read an account. Each is split into its answer, which reads only, and
 // the work where the answer is Done. The rules stand in `specs/Calls.antt`. That the room and the directory are fit is asked before.
 use crate::fit::open_with;
-use crate::steps::SET;
-use crate::steps::SUM_MOST;
-use crate::steps::no_identifier;
-use crate::steps::no_settings;
-use crate::steps::settings_fit;
-use crate::working::append;
-use crate::working::drop_last;
 use directory::Found;
 use directory::Gathered;
 use directory::Participant;
 use directory::is_owner;
+use journal::SET;
+use journal::SUM_MOST;
+use journal::append;
+use journal::drop_last;
+use journal::no_identifier;
+use journal::no_settings;
+use journal::settings_fit;
 use layout::account;
 use layout::head;
 use layout::put_head;

@@ -1,8 +1,8 @@
 // Whether a seat is fit: it is worked out anew from its opening sums and its journal, and compared. The rules stand in `specs/Fit.antt`.
-use crate::steps::SUM_MOST;
-use crate::steps::no_settings;
-use crate::working::append;
-use crate::working::is_possible;
+use journal::SUM_MOST;
+use journal::append;
+use journal::is_possible;
+use journal::no_settings;
 use layout::ROOM_LONG;
 use layout::SEAT_LONG;
 use layout::account;
@@ -20,9 +20,9 @@ ghost use lib.ListN.{length, replicate};
 ghost use Rattle.shape.specs.Bytes.{every};
 ghost use Rattle.slip.specs.Meaning.{steps};
 ghost use Rattle.layout.specs.Seat.{accounts, seatLong};
-ghost use Rattle.seat.specs.Steps.{sumMost};
+ghost use Rattle.journal.specs.Steps.{sumMost};
+ghost use Rattle.journal.specs.Working.{stepsFrom, worked};
 ghost use Rattle.seat.specs.Fit.{same, openSeat, sumsOf, comesOut, openFits, closedFits, seatFits, roomFits};
-ghost use Rattle.seat.specs.Working.{stepsFrom, worked};
 
 // Whether two lists of numbers are the same.
 fn is_same(s: &[u64], t: &[u64]) -> bool

@@ -1,14 +1,9 @@
-// One seat of a room: what its steps can be, what they do, when it is fit, and the calls that need no message. Document 01, "Room, seats,
-// directory" and "Calls and refusals".
-// It knows nothing of sheets and checks. Steps stand in `specs/Steps.antt`, what they do in `specs/Working.antt`, fitness in `specs/Fit.antt`,
-// the calls in `specs/Calls.antt`.
+// One seat of a room: when it is fit, and the calls that need no message. Document 01, "Room, seats, directory" and "Calls and refusals".
+// What its steps can be and do stands in `journal`; it knows nothing of sheets and checks. Fitness stands in `specs/Fit.antt`, the calls in
+// `specs/Calls.antt`.
 
 mod calls;
 mod fit;
-mod journal;
-mod limits;
-mod steps;
-mod working;
 
 pub use calls::Answer;
 pub use calls::Limit;
@@ -25,15 +20,3 @@ pub use calls::settings_of;
 pub use calls::take_back;
 pub use fit::room_fits;
 pub use fit::seat_fits;
-pub use journal::Earlier;
-pub use journal::Trace;
-pub use journal::earliest;
-pub use limits::available_below;
-pub use limits::blocked_into;
-pub use limits::blocked_out;
-pub use limits::turnover_above;
-pub use limits::turnover_shut;
-pub use steps::step_fits;
-pub use working::append;
-pub use working::drop_last;
-pub use working::is_possible;

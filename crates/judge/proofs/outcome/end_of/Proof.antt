@@ -5,7 +5,7 @@ use denote.Ref.{now}
 use borrow.Author.Needs.{needs}
 use Rattle.table.specs.declared.Kind.{Kind}
 use Rattle.table.specs.declared.Kind.the-variants.{Pacs028}
-use Rattle.seat.specs.declared.journal.Earlier.{Earlier}
+use Rattle.journal.specs.declared.traces.Earlier.{Earlier}
 use Rattle.judge.specs.Rows.{askedAfter}
 use Rattle.judge.specs.Verdict.{answered, endOf}
 use Rattle.judge.proofs.outcome.end_of.Statement.{statement}

@@ -3,7 +3,7 @@ use mathlib.Core.Path.{sym, subst, _∙_}
 use Prim.Native.Nat.{ℕ, _<_}
 use Rattle.shape.proofs.Tests.{and-left}
 use Rattle.layout.specs.Seat.{accounts}
-use Rattle.seat.specs.Steps.{settingsFit}
+use Rattle.journal.specs.Steps.{settingsFit}
 use Rattle.seat.specs.Calls.{accountNamed}
 use Rattle.seat.proofs.Named.{number-low, account-low}
 use Rattle.seat.proofs.Refusals.{both-false, both-true, set-refused, set-bad, set-full, set-done}

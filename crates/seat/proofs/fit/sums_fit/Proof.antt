@@ -8,7 +8,7 @@ use borrow.Author.Needs.{needs}
 use borrow.Author.Tests.{le-leb, lt-leb}
 use Rattle.shape.specs.Bytes.{every}
 use Rattle.shape.proofs.Loops.{every-hit, every-miss, every-end}
-use Rattle.seat.specs.Steps.{sumMost}
+use Rattle.journal.specs.Steps.{sumMost}
 use Rattle.seat.proofs.fit.sums_fit.Statement.{statement}
 use Rattle.seat.proofs.fit.sums_fit.Tie as tie
 

@@ -3,9 +3,9 @@ use mathlib.Core.Path.{refl, sym, _∙_}
 use Prim.Native.Nat.{_-_}
 use native.Mathlib.Omega.{arith}
 use borrow.Author.Tests.{not-true, not-false}
-use Rattle.seat.proofs.Grown.{grown-low}
+use Rattle.journal.proofs.Grown.{grown-low}
+use Rattle.journal.proofs.Backed.{possible-fits}
 use Rattle.seat.proofs.Turns.{Worked, works-first, works-next, works-not, works-last}
-use Rattle.seat.proofs.Backed.{possible-fits}
 use Rattle.seat.proofs.fit.works_out.Statement.{statement}
 use Rattle.seat.proofs.fit.works_out.Tie as tie
 

@@ -1,0 +1,11 @@
+pub mod Above
+pub mod Backed
+pub mod Changed
+pub mod Grown
+pub mod Moves
+pub mod Settings
+pub mod Settled
+pub mod StepLaws
+pub mod Sums
+pub mod TraceLaws
+pub mod WorkedLaws

@@ -1,0 +1,128 @@
+-- What a step that fits is: what was stored fits, no step does not, and accounts, settings and amount are in range.
+-- Assumes nothing.
+use mathlib.Core.Path.{_≡_, refl, sym, ap, subst, _∙_}
+use mathlib.Core.Bool.{Bool, true, false, _&&_, cond}
+use mathlib.Core.List.{List}
+use Prim.Native.Nat.{ℕ, _≤_, _<_}
+use lib.Dec.{leb, ltb, eqb}
+use lib.ListN.{length, take}
+use borrow.Author.Tests.{ltb-true, leb-true, eqb-true, eq-eqb}
+use Rattle.shape.specs.Dates.{isTime}
+use Rattle.shape.specs.Fields.{isIdentifier}
+use Rattle.shape.specs.Stored.{identifierOf, allBytes, identifierText, storedText, isUetr, uetrOf}
+use Rattle.shape.specs.declared.stored.Identifier.{Identifier}
+use Rattle.shape.specs.declared.stored.Text.{Text}
+use Rattle.shape.proofs.Tests.{and-left, and-right}
+use Rattle.shape.proofs.ReadBack.{identifier-back, identifier-same, text-short, text-front, stored-version, stored-variant}
+use Rattle.slip.specs.Meaning.{kindNumber, says}
+use Rattle.directory.specs.Directory.{codeMost}
+use Rattle.layout.specs.declared.rows.Settings.{Settings}
+use Rattle.layout.specs.declared.rows.Step.{Step}
+use Rattle.layout.specs.Seat.{accounts}
+use Rattle.journal.specs.Steps.{setKind, amountMost, settingsFit, sameSettings, isStored, isStoredUetr, noMessage, noMovement, noSet, setFits, isKind, carriedOut, between, movementFits, referenceFits, messageFits, stepFits, noStep}
+
+-- the text that is handed on: at most 35 of its bytes are the identifier's, they stand in front, and are as many as it says
+module _ (t : Text) (x : Identifier) (e : t ≡ storedText x) where
+  pub text-most : t .length ≤ 35
+  unfolding storedText
+  text-most = subst (λ (u : Text). u .length ≤ 35) (sym e) (text-short x)
+
+  pub text-fits : t .length ≤ length (t .bytes)
+  unfolding storedText allBytes
+  text-fits = subst (λ (u : Text). u .length ≤ length (u .bytes)) (sym e) (text-short x)
+
+  pub text-part : take (t .length) (t .bytes) ≡ identifierText x
+  unfolding storedText
+  text-part = subst (λ (u : Text). take (u .length) (u .bytes) ≡ identifierText x) (sym e) (text-front x)
+
+  pub text-long : t .length ≡ length (take (t .length) (t .bytes))
+  unfolding storedText
+  text-long = ap (λ (u : Text). u .length) e ∙ ap length (sym text-part)
+
+-- what an identifier is stored as fits
+pub stored-fits : (s : List ℕ) → isIdentifier s ≡ true → isStored (identifierOf s) ≡ true
+unfolding isStored
+stored-fits s e = rw (identifier-back s e, e) (identifier-same s s e e .1 refl)
+
+-- and so does what a UETR is stored as
+pub uetr-fits : (s : List ℕ) → isUetr s ≡ true → isStoredUetr (uetrOf s) ≡ true
+unfolding isStoredUetr
+uetr-fits s e = rw (stored-version s e, stored-variant s e)
+
+-- no step is none that fits
+pub no-step-unfit : stepFits noStep ≡ false
+unfolding stepFits messageFits says kindNumber
+no-step-unfit = refl
+
+-- a set that fits, part by part
+set-fits : (x : Step) → stepFits x ≡ true → isKind setKind x ≡ true → setFits x ≡ true
+unfolding stepFits
+set-fits x e k = subst (λ (t : Bool). cond t (setFits x) (messageFits x) ≡ true) k e
+
+set-before : (x : Step) → stepFits x ≡ true → isKind setKind x ≡ true
+    → (noMessage x && noMovement x && ltb (x .account) accounts && settingsFit (x .old)) ≡ true
+unfolding setFits
+set-before x e k = and-left (noMessage x && noMovement x && ltb (x .account) accounts && settingsFit (x .old)) (settingsFit (x .given)) (set-fits x e k)
+
+pub set-account : (x : Step) → stepFits x ≡ true → isKind setKind x ≡ true → x .account < accounts
+set-account x e k =
+    let h = and-left (noMessage x && noMovement x && ltb (x .account) accounts) (settingsFit (x .old)) (set-before x e k) in
+    ltb-true (x .account) accounts (and-right (noMessage x && noMovement x) (ltb (x .account) accounts) h)
+
+pub set-old : (x : Step) → stepFits x ≡ true → isKind setKind x ≡ true → settingsFit (x .old) ≡ true
+set-old x e k = and-right (noMessage x && noMovement x && ltb (x .account) accounts) (settingsFit (x .old)) (set-before x e k)
+
+pub set-given : (x : Step) → stepFits x ≡ true → isKind setKind x ≡ true → settingsFit (x .given) ≡ true
+unfolding setFits
+set-given x e k = and-right (noMessage x && noMovement x && ltb (x .account) accounts && settingsFit (x .old)) (settingsFit (x .given)) (set-fits x e k)
+
+-- the movement of a message that fits
+movement-fits : (x : Step) → stepFits x ≡ true → isKind setKind x ≡ false → movementFits x ≡ true
+unfolding stepFits messageFits
+movement-fits x e k =
+    let front = says (x .kind) (x .status) (x .check) && leb (x .sender) codeMost && isStored (x .id) && isStoredUetr (x .uetr) && isTime (x .created) && referenceFits x in
+    let h = subst (λ (t : Bool). cond t (setFits x) (messageFits x) ≡ true) k e in
+    and-right front (movementFits x) (and-left (front && movementFits x) (noSet x) h)
+
+-- three of five tests that all hold
+three-hold : (least most debit credit rest : Bool) → (least && most && debit && credit && rest) ≡ true → (debit ≡ true) × (credit ≡ true) × (most ≡ true)
+three-hold least most debit credit rest e =
+    let four = and-left (least && most && debit && credit) rest e in
+    let three = and-left (least && most && debit) credit four in
+    (and-right (least && most) debit three, and-right (least && most && debit) credit four, and-right least most (and-left (least && most) debit three))
+
+-- where an amount was moved, it and both accounts are in range
+pub moved-within : (x : Step) → stepFits x ≡ true → isKind setKind x ≡ false → (x .amount ≡ 0 → ⊥)
+    → (x .debit < accounts) × (x .credit < accounts) × (x .amount ≤ amountMost)
+unfolding movementFits noMovement
+moved-within x e k n = go (carriedOut x) (movement-fits x e k)
+  where
+    go : (t : Bool)
+        → cond t (leb 1 (x .amount) && leb (x .amount) amountMost && ltb (x .debit) accounts && ltb (x .credit) accounts && between x) (noMovement x) ≡ true
+        → (x .debit < accounts) × (x .credit < accounts) × (x .amount ≤ amountMost)
+    go true h =
+        let p = three-hold (leb 1 (x .amount)) (leb (x .amount) amountMost) (ltb (x .debit) accounts) (ltb (x .credit) accounts) (between x) h in
+        (ltb-true (x .debit) accounts (p .0), ltb-true (x .credit) accounts (p .1), leb-true (x .amount) amountMost (p .2))
+    go false h = absurd (n (eqb-true (x .amount) 0 (and-right (eqb (x .debit) 0 && eqb (x .credit) 0) (eqb (x .amount) 0) h)))
+
+-- the same numbers are the same settings
+pub same-settings : (x y : Settings) → sameSettings x y ≡ true → x ≡ y
+unfolding sameSettings
+same-settings x y e =
+    let out = eqb (x .out) (y .out) in
+    let into = eqb (x .into) (y .into) in
+    let ltk = eqb (x .ltk) (y .ltk) in
+    let lpo = eqb (x .lpo) (y .lpo) in
+    let three = and-left (out && into && ltk) lpo e in
+    let two = and-left (out && into) ltk three in
+    λ i. record {
+      out = eqb-true (x .out) (y .out) (and-left out into two) i;
+      into = eqb-true (x .into) (y .into) (and-right out into two) i;
+      ltk = eqb-true (x .ltk) (y .ltk) (and-right (out && into) ltk three) i;
+      lpo = eqb-true (x .lpo) (y .lpo) (and-right (out && into && ltk) lpo e) i;
+    }
+
+-- settings are the same as themselves
+pub settings-same : (x : Settings) → sameSettings x x ≡ true
+unfolding sameSettings
+settings-same x = rw (eq-eqb (x .out) (x .out) refl, eq-eqb (x .into) (x .into) refl, eq-eqb (x .ltk) (x .ltk) refl, eq-eqb (x .lpo) (x .lpo) refl)

@@ -1,0 +1,42 @@
+-- The code is the definition.
+use Rattle.journal.specs.Steps.{messageFits}
+use Rattle.journal.proofs.steps.message_fits.Statement.{statement}
+use Rattle.journal.proofs.steps.message_fits.Tie as tie
+
+can-say-requires : tie.Need-can-say-requires
+can-say-requires c κs = tt
+
+is-stored-requires : tie.Need-is-stored-requires
+is-stored-requires c κs = tt
+
+is-stored-uetr-requires : tie.Need-is-stored-uetr-requires
+is-stored-uetr-requires c κs = tt
+
+is-time-requires : tie.Need-is-time-requires
+is-time-requires c κs = tt
+
+reference-fits-requires : tie.Need-reference-fits-requires
+reference-fits-requires c κs = tt
+
+movement-fits-requires : tie.Need-movement-fits-requires
+movement-fits-requires c κs = tt
+
+no-set-requires : tie.Need-no-set-requires
+no-set-requires c κs = tt
+
+returns : tie.Need-returns
+unfolding messageFits
+returns c = rw (c .before .before .before .before .before .before .before .can-say .ensures, c .before .before .before .before .before .is-stored .ensures, c .before .before .before .before .is-stored-uetr .ensures, c .before .before .before .is-time .ensures, c .before .before .reference-fits .ensures, c .before .movement-fits .ensures, c .no-set .ensures)
+
+pub message-fits-spec : {M : Type 1} → statement M
+message-fits-spec =
+    tie.close
+    (tie.spec
+    can-say-requires
+    is-stored-requires
+    is-stored-uetr-requires
+    is-time-requires
+    reference-fits-requires
+    movement-fits-requires
+    no-set-requires
+    returns)

@@ -1,0 +1,51 @@
+-- A set, a step that moves nothing and a movement are told apart as the definition does; a fit step names accounts of the seat.
+use borrow.Author.Tests.{eq-eqb, ne-eqb}
+use borrow.Author.Needs.{needs}
+use Rattle.journal.specs.Steps.{setKind}
+use Rattle.journal.proofs.StepLaws.{set-account, moved-within}
+use Rattle.journal.proofs.Moves.{sets, rests, moves}
+use Rattle.journal.proofs.working.do_effect.Statement.{statement}
+use Rattle.journal.proofs.working.do_effect.Tie as tie
+
+account-requires : tie.Need-account-requires
+account-requires c κs = (c .before .before .before .before .pre .0 .long, set-account (c .before .before .before .before .args .x) (c .before .before .before .before .pre .1) (eq-eqb (c .before .before .before .before .args .x .kind) setKind (c .before .if1 .taken)))
+
+with-settings-requires : tie.Need-with-settings-requires
+with-settings-requires c κs = search needs
+
+put-account-requires : tie.Need-put-account-requires
+put-account-requires c κs = (c .before .before .before .before .before .before .before .pre .0 .long, set-account (c .before .before .before .before .before .before .before .args .x) (c .before .before .before .before .before .before .before .pre .1) (eq-eqb (c .before .before .before .before .before .before .before .args .x .kind) setKind (c .before .before .before .before .if1 .taken)))
+
+same-length : tie.Need-same-length
+same-length c = search needs
+
+returns : tie.Need-returns
+returns c = sets (c .before .before .before .before .before .before .before .before .before .before .args .x) (c .before .before .before .before .before .before .before .before .before .before .args .s .now) (c .before .before .put-account .last .0) (c .before .before .before .before .before .account .result) (c .before .before .before .with-settings .result) (c .before .before .before .before .before .before .before .if1 .taken) (c .before .before .before .before .before .account .ensures) (c .before .before .before .with-settings .ensures) (c .before .before .put-account .ensures)
+
+returns-2 : tie.Need-returns-2
+returns-2 c = rests (c .before .before .before .before .before .args .x) (c .before .before .before .before .before .args .s .now) (c .before .before .if1 .left) (c .if2 .taken)
+
+move-money-requires : tie.Need-move-money-requires
+move-money-requires c κs =
+    let within = moved-within (c .before .before .before .before .before .before .args .x) (c .before .before .before .before .before .before .pre .1) (ne-eqb (c .before .before .before .before .before .before .args .x .kind) setKind (c .before .before .before .if1 .left)) (c .before .if2 .left) in
+    (c .before .before .before .before .before .before .pre .0, within .0, within .1, within .2)
+
+same-length-2 : tie.Need-same-length-2
+same-length-2 c = search needs
+
+returns-3 : tie.Need-returns-3
+returns-3 c = moves (c .before .before .before .before .before .before .before .before .before .args .x) (c .before .before .before .before .before .before .before .before .before .args .s .now) (c .before .before .move-money .last .0) (c .before .before .before .before .before .before .if1 .left) (c .before .before .before .before .if2 .left) (c .before .before .move-money .ensures)
+
+pub do-effect-spec : {M : Type 1} → statement M
+do-effect-spec =
+    tie.close
+    (tie.spec
+    account-requires
+    with-settings-requires
+    put-account-requires
+    same-length
+    returns
+    returns-2
+    move-money-requires
+    same-length-2
+    returns-3)

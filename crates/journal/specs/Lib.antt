@@ -1,0 +1,5 @@
+pub mod Steps
+pub mod Working
+pub mod Low
+pub mod Limits
+pub mod Traces

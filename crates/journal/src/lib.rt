@@ -1,0 +1,27 @@
+// The steps of a journal: what a step can be, what it does to the accounts, when it is possible, taking the last one back, the first step that
+// leaves a trace, and what an account's blocks and limits leave. Document 01, "Room, seats, directory" and "The checks".
+// It knows nothing of when a seat is fit, nor of calls and messages. Steps stand in `specs/Steps.antt`, what they do in `specs/Working.antt`,
+// traces in `specs/Traces.antt`, blocks and limits in `specs/Limits.antt`, and that sums fit their types in `specs/Low.antt`.
+
+mod limits;
+mod steps;
+mod traces;
+mod working;
+
+pub use limits::available_below;
+pub use limits::blocked_into;
+pub use limits::blocked_out;
+pub use limits::turnover_above;
+pub use limits::turnover_shut;
+pub use steps::SET;
+pub use steps::SUM_MOST;
+pub use steps::no_identifier;
+pub use steps::no_settings;
+pub use steps::settings_fit;
+pub use steps::step_fits;
+pub use traces::Earlier;
+pub use traces::Trace;
+pub use traces::earliest;
+pub use working::append;
+pub use working::drop_last;
+pub use working::is_possible;

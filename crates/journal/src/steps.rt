@@ -1,0 +1,196 @@
+// What a step of the journal can be, by itself. The rules stand in `specs/Steps.antt`, one definition for each function.
+use directory::CODE_MOST;
+use layout::rows::Settings;
+use layout::rows::Step;
+use shape::date::is_time;
+use shape::field::is_identifier;
+use shape::stored::Identifier;
+use shape::stored::Uetr;
+use shape::stored::identifier_of;
+use shape::stored::same_identifier;
+use shape::stored::text_of;
+use slip::can_say;
+ghost use mathlib.Core.Path.{_≡_};
+ghost use Rattle.journal.specs.Steps.{settingsFit, sameSettings, noSettings, noIdentifier, isStored, isStoredUetr, noMessage, noMovement, noSet, setFits, carriedOut, between, movementFits, referenceFits, messageFits, stepFits, noStep};
+
+// The kinds of steps by number.
+pub const PACS_008: u64 = 1;
+
+pub const CAMT_050: u64 = 2;
+
+pub const SET: u64 = 4;
+
+// The highest opening sum, LTK and LPO, and the highest amount, in kopecks.
+pub const SUM_MOST: u64 = 1000000000000000;
+
+pub const AMOUNT_MOST: u64 = 9999999999999;
+
+pub fn no_settings() -> Settings
+    ensures { λ r. ⌜ r ≡ noSettings ⌝ }
+{
+    Settings {
+        out: 0,
+        into: 0,
+        ltk: 0,
+        lpo: 0,
+    }
+}
+
+pub fn no_identifier() -> Identifier
+    ensures { λ r. ⌜ r ≡ noIdentifier ⌝ }
+{
+    Identifier {
+        first: 0,
+        second: 0,
+        third: 0,
+        fourth: 0,
+        fifth: 0,
+    }
+}
+
+// What stands where no step does.
+pub fn no_step() -> Step
+    ensures { λ r. ⌜ r ≡ noStep ⌝ }
+{
+    Step {
+        kind: 0,
+        status: 0,
+        check: 0,
+        sender: 0,
+        id: no_identifier(),
+        uetr: Uetr { high: 0, low: 0 },
+        created: 0,
+        reference: no_identifier(),
+        debit: 0,
+        credit: 0,
+        amount: 0,
+        account: 0,
+        old: no_settings(),
+        given: no_settings(),
+    }
+}
+
+pub fn settings_fit(x: Settings) -> bool
+    ensures { λ r. ⌜ r ≡ settingsFit x ⌝ }
+{
+    (x.out <= 1) & (x.into <= 1) & (x.ltk <= SUM_MOST) & (x.lpo <= SUM_MOST + 1)
+}
+
+pub fn same_settings(x: Settings, y: Settings) -> bool
+    ensures { λ r. ⌜ r ≡ sameSettings x y ⌝ }
+{
+    (x.out == y.out) & (x.into == y.into) & (x.ltk == y.ltk) & (x.lpo == y.lpo)
+}
+
+// Whether an identifier is stored so: the text that stands there is one, and is stored as these very numbers.
+fn is_stored(x: Identifier) -> bool
+    ensures { λ r. ⌜ r ≡ isStored x ⌝ }
+{
+    let text = text_of(x);
+    let bytes = text.bytes;
+    let length = text.length;
+    if 35 < length {
+        return false;
+    }
+    is_identifier(&bytes[..length]) & same_identifier(identifier_of(&bytes[..length]), x)
+}
+
+// Whether a UETR is stored so: the version's digit is 4 and the variant's 8 to b.
+fn is_stored_uetr(x: Uetr) -> bool
+    ensures { λ r. ⌜ r ≡ isStoredUetr x ⌝ }
+{
+    (x.high / 4096 % 16 == 4) & (x.low / 4611686018427387904 == 2)
+}
+
+fn no_message(x: Step) -> bool
+    ensures { λ r. ⌜ r ≡ noMessage x ⌝ }
+{
+    (x.status == 0)
+        & (x.check == 0)
+        & (x.sender == 0)
+        & same_identifier(x.id, no_identifier())
+        & (x.uetr.high == 0)
+        & (x.uetr.low == 0)
+        & (x.created == 0)
+        & same_identifier(x.reference, no_identifier())
+}
+
+fn no_movement(x: Step) -> bool
+    ensures { λ r. ⌜ r ≡ noMovement x ⌝ }
+{
+    (x.debit == 0) & (x.credit == 0) & (x.amount == 0)
+}
+
+fn no_set(x: Step) -> bool
+    ensures { λ r. ⌜ r ≡ noSet x ⌝ }
+{
+    (x.account == 0) & same_settings(x.old, no_settings()) & same_settings(x.given, no_settings())
+}
+
+fn set_fits(x: Step) -> bool
+    ensures { λ r. ⌜ r ≡ setFits x ⌝ }
+{
+    no_message(x) & no_movement(x) & (x.account < 32) & settings_fit(x.old) & settings_fit(x.given)
+}
+
+// Whether the step is a transfer that was carried out.
+fn carried_out(x: Step) -> bool
+    ensures { λ r. ⌜ r ≡ carriedOut x ⌝ }
+{
+    (x.status == 1) & ((x.kind == PACS_008) | (x.kind == CAMT_050))
+}
+
+// Whether the accounts of a movement are such as its kind moves between.
+fn is_between(x: Step) -> bool
+    ensures { λ r. ⌜ r ≡ between x ⌝ }
+{
+    if x.kind == CAMT_050 {
+        return (x.debit / 2 == x.credit / 2) & (x.debit != x.credit);
+    }
+    (x.debit % 2 == 1) & (x.credit % 2 == 1)
+}
+
+fn movement_fits(x: Step) -> bool
+    ensures { λ r. ⌜ r ≡ movementFits x ⌝ }
+{
+    if carried_out(x) {
+        return (1 <= x.amount)
+            & (x.amount <= AMOUNT_MOST)
+            & (x.debit < 32)
+            & (x.credit < 32)
+            & is_between(x);
+    }
+    no_movement(x)
+}
+
+fn reference_fits(x: Step) -> bool
+    ensures { λ r. ⌜ r ≡ referenceFits x ⌝ }
+{
+    if x.kind == CAMT_050 {
+        return same_identifier(x.reference, no_identifier());
+    }
+    is_stored(x.reference)
+}
+
+fn message_fits(x: Step) -> bool
+    ensures { λ r. ⌜ r ≡ messageFits x ⌝ }
+{
+    can_say(x.kind, x.status, x.check)
+        & (x.sender <= CODE_MOST)
+        & is_stored(x.id)
+        & is_stored_uetr(x.uetr)
+        & is_time(x.created)
+        & reference_fits(x)
+        & movement_fits(x)
+        & no_set(x)
+}
+
+// Whether a step is one that a journal can have.
+pub fn step_fits(x: Step) -> bool
+    ensures { λ r. ⌜ r ≡ stepFits x ⌝ }
+{
+    if x.kind == SET {
+        return set_fits(x);
+    }
+    message_fits(x)
+}
