@@ -10,7 +10,7 @@ use Rattle.layout.specs.Seat.{seatOf, withSeat}
 use Rattle.seat.specs.declared.calls.Limit.the-variants.{None}
 use Rattle.strike.specs.Strike.{events}
 use Rattle.centre.specs.Answers.{Told, done, refused, isDone, behind}
-use Rattle.centre.specs.Calls.{setIn, setAfter}
+use Rattle.centre.specs.Calls.{setIn, setTold, setAfter}
 use Rattle.demands.specs.Calls.{Call, under, takeBack, actTold, callTold, actRoom, callRoom, actSlip, callSlip}
 use Rattle.demands.specs.Seats.{newRoom, Answer, answerOf, centre}
 use Rattle.cases.specs.Cases.{directory, begin, ticket, moves, wish, sets, values, refusal, unslipped, accepted, Case, played, case11}
@@ -29,7 +29,7 @@ made room = withSeat room 3 (setIn 0 (wish 0 None) (seatOf room 3))
 
 behind-idle : (room : List ℕ) (calls : List Call) → callTold directory idle room ≡ done []
     → answersFrom room (idle ∷ calls) ≡ values [] ∷ answersFrom (made room) calls
-unfolding made events answerOf callTold actTold callSlip actSlip callRoom actRoom setAfter behind isDone found foundFrom
+unfolding made events answerOf callTold actTold callSlip actSlip callRoom actRoom setTold setAfter behind isDone found foundFrom
 behind-idle room calls h = rw h
 
 -- what n of them are told, one behind the other, and the room behind them

@@ -1,12 +1,14 @@
 pub mod First
 pub mod Joined
 pub mod Judged
-pub mod Lent
+pub mod LentDirectories
+pub mod LentWalks
 pub mod Listed
 pub mod Passes
 pub mod Refusals
 pub mod RuledOut
 pub mod RuledOutSubmit
+pub mod SeatLent
 pub mod Settled
 pub mod SlipsTold
 pub mod Submitted

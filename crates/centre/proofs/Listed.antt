@@ -3,11 +3,13 @@
 -- Assumes nothing.
 use mathlib.Core.Path.{_≡_, refl, sym, ap, _∙_}
 use mathlib.Core.Bool.{Bool, true, false, false≢true}
+use mathlib.Core.List.{List}
 use Prim.Native.Nat.{ℕ, _≤_}
 use lib.Dec.{leb}
 use lib.ListN.{length}
 use borrow.Author.Tests.{leb-true}
 use Rattle.shape.proofs.Tests.{and-false}
+use Rattle.directory.specs.declared.Participant.{Participant}
 use Rattle.directory.specs.declared.Gathered.{Gathered}
 use Rattle.directory.specs.declared.Found.{Found}
 use Rattle.directory.specs.Directory.{found, isFit}
@@ -41,3 +43,11 @@ module _ (g : Gathered) (sixteen : length (g .records) ≡ 16) where
 
     pub owner-fits : (code : ℕ) (f : Found) → f ≡ found (recordsIn g) code → placeFits f ≡ true
     owner-fits code f e = ap placeFits e ∙ found-fits (recordsIn g) code (fit-few (recordsIn g) records-fit)
+
+-- with the result of the test for fitness: where it is fit, the owner found among the records is the one found in the directory
+module _ (g : Gathered) (code : ℕ) (fit : Bool) (f : Found) (tested : fit ≡ fitGathered g) (e : f ≡ found (recordsIn g) code) where
+  pub gathered-owner : fit ≡ true → f ≡ found (directoryIn g) code
+  gathered-owner h = e ∙ ap (λ (dir : List Participant). found dir code) (sym (directory-records g (sym tested ∙ h)))
+
+  pub gathered-place : length (g .records) ≡ 16 → fit ≡ true → placeFits f ≡ true
+  gathered-place sixteen h = owner-fits g sixteen (sym tested ∙ h) code f e

@@ -1,8 +1,8 @@
 -- Of each call the answer and the room behind it, at each place where it can end: the room is unfit; the room is fit and the directory is not;
 -- both are fit and the seat is above 7; else what the seat's own call answers and leaves.
 -- Assumes nothing.
-use mathlib.Core.Path.{_≡_, sym, ap, subst, _∙_}
-use mathlib.Core.Bool.{true, false, not, _&&_}
+use mathlib.Core.Path.{_≡_, refl, sym, ap, subst, _∙_}
+use mathlib.Core.Bool.{Bool, true, false, cond, not, _&&_}
 use mathlib.Core.List.{List, [], _∷_}
 use Prim.Native.Nat.{ℕ, suc, _≤_, _<_}
 use lib.Dec.{eqb}
@@ -14,7 +14,7 @@ use Rattle.directory.specs.declared.Found.{Found}
 use Rattle.directory.specs.declared.Gathered.{Gathered}
 use Rattle.directory.specs.Directory.{found, isFit}
 use Rattle.directory.specs.Gathering.{recordsIn, directoryIn, fitGathered}
-use Rattle.directory.proofs.Gathers.{directory-records}
+use Rattle.directory.proofs.Gathers.{directory-fit, directory-records}
 use Rattle.layout.specs.declared.rows.Head.{Head}
 use Rattle.layout.specs.declared.rows.Account.{Account}
 use Rattle.layout.specs.declared.rows.Settings.{Settings}
@@ -49,7 +49,7 @@ use Rattle.seat.proofs.Undone.{opening-grows}
 use Rattle.centre.specs.declared.Answer.{Answer}
 use Rattle.centre.specs.declared.Answer.the-variants.{Done, RoomUnfit, DirectoryUnfit, NoTicket}
 use Rattle.centre.specs.declared.Ticket.{Ticket}
-use Rattle.centre.specs.Answers.{isDone, behind, told, seatTold}
+use Rattle.centre.specs.Answers.{refused, isDone, behind, told, seatTold}
 use Rattle.centre.specs.Calls.{
   noSeat,
   ticketBad,
@@ -59,15 +59,18 @@ use Rattle.centre.specs.Calls.{
   openAfter,
   closeTold,
   closeAfter,
+  setBy,
   setTold,
   setIn,
+  setLeft,
   setAfter,
   backTold,
   backAfter,
+  readBy,
   readTold,
 }
-use Rattle.centre.proofs.Lent.{lentOf, backIn, room-back, lent-again}
-use Rattle.centre.proofs.Listed.{listed-unfit, directory-is-fit, records-fit}
+use Rattle.centre.proofs.SeatLent.{lentOf, backIn, room-back, lent-again}
+use Rattle.centre.proofs.Listed.{listed-unfit, directory-is-fit, records-fit, gathered-owner}
 use Rattle.centre.proofs.Joined.{close-table, open-table, set-table, back-table, read-table, told-with, room-behind}
 
 -- lay out
@@ -218,94 +221,96 @@ module _ (g : Gathered) (k : ℕ) (sums room : List ℕ) where
           (sym (directory-records g listed))
           (open-done (recordsIn g) k sums room fit (records-fit g sixteen listed) h r a u head e f long read t)
 
--- set, over the list of participants
-module _ (dir : List Participant) (ticket : Ticket) (owner number : ℕ) (wish : Wish) (room : List ℕ) where
-  set-room-bad : roomFits room ≡ false
-      → (told RoomUnfit ≡ setTold dir ticket owner number wish room) × (room ≡ setAfter dir ticket owner number wish room)
-  unfolding told setTold setAfter behind isDone
-  set-room-bad e = (rw e, rw e)
+-- set, by what was found of the owner in a directory that is fit or not
+module _ (fit : Bool) (owner : Found) (ticket : Ticket) (number : ℕ) (wish : Wish) (room : List ℕ) where
+  pub set-room-unfit : roomFits room ≡ false
+      → (told RoomUnfit ≡ setBy fit owner ticket number wish room) × (room ≡ setLeft fit owner ticket number wish room)
+  unfolding told behind isDone
+  set-room-unfit e = (rw e, rw e)
 
-  module _ (fit : roomFits room ≡ true) where
-    set-dir-bad : isFit dir ≡ false
-        → (told DirectoryUnfit ≡ setTold dir ticket owner number wish room) × (room ≡ setAfter dir ticket owner number wish room)
-    unfolding told setTold setAfter behind isDone
-    set-dir-bad e = (rw (fit, e), rw (fit, e))
+  module _ (good : roomFits room ≡ true) where
+    pub set-unlisted : fit ≡ false
+        → (told DirectoryUnfit ≡ setBy fit owner ticket number wish room) × (room ≡ setLeft fit owner ticket number wish room)
+    unfolding told behind isDone
+    set-unlisted e = (rw (good, e), rw (good, e))
 
-    module _ (listed : isFit dir ≡ true) where
-      set-seat-bad : 8 ≤ ticket .seat
-          → (told NoTicket ≡ setTold dir ticket owner number wish room) × (room ≡ setAfter dir ticket owner number wish room)
-      unfolding told setTold setAfter behind isDone ticketBad noSeat
-      set-seat-bad h = (rw (fit, listed, le-leb 8 (ticket .seat) h), rw (fit, listed, le-leb 8 (ticket .seat) h))
+    module _ (listed : fit ≡ true) where
+      pub set-no-seat : 8 ≤ ticket .seat
+          → (told NoTicket ≡ setBy fit owner ticket number wish room) × (room ≡ setLeft fit owner ticket number wish room)
+      unfolding told behind isDone ticketBad noSeat
+      set-no-seat h = (rw (good, listed, le-leb 8 (ticket .seat) h), rw (good, listed, le-leb 8 (ticket .seat) h))
 
       module _ (h : ticket .seat < 8) where
-        set-joined : seatTold (setAnswer (ticket .opening) (found dir owner) number (settingsOf wish) (seatOf room (ticket .seat))) []
-            ≡ setTold dir ticket owner number wish room
-        unfolding setTold ticketBad noSeat setAnswer
+        set-joined : seatTold (setAnswer (ticket .opening) owner number (settingsOf wish) (seatOf room (ticket .seat))) []
+            ≡ setBy fit owner ticket number wish room
+        unfolding ticketBad noSeat setAnswer
         set-joined =
-            rw (fit, listed, lt-leb 8 (ticket .seat) h)
+            rw (good, listed, lt-leb 8 (ticket .seat) h)
             (set-table (noTicket (ticket .opening) (seatOf room (ticket .seat)))
-            (not (accountNamed (found dir owner) number && settingsFit (settingsOf wish)))
+            (not (accountNamed owner number && settingsFit (settingsOf wish)))
             (eqb (headOf (seatOf room (ticket .seat)) .steps) steps))
 
         set-put : withSeat room (ticket .seat)
-            (seatSet (ticket .opening) (found dir owner) number (settingsOf wish) (seatOf room (ticket .seat)))
-            ≡ setAfter dir ticket owner number wish room
-        unfolding setAfter seatSet setIn
+            (seatSet (ticket .opening) owner number (settingsOf wish) (seatOf room (ticket .seat)))
+            ≡ setLeft fit owner ticket number wish room
+        unfolding seatSet setIn
         set-put =
-            room-behind room (ticket .seat) (room-long room fit) h (setIn (accountNumber (found dir owner) number) wish (seatOf room (ticket .seat)))
-            (setAnswer (ticket .opening) (found dir owner) number (settingsOf wish) (seatOf room (ticket .seat))) []
-            (setTold dir ticket owner number wish room) set-joined
+            room-behind room (ticket .seat) (room-long room good) h (setIn (accountNumber owner number) wish (seatOf room (ticket .seat)))
+            (setAnswer (ticket .opening) owner number (settingsOf wish) (seatOf room (ticket .seat))) []
+            (setBy fit owner ticket number wish room) set-joined
 
-        set-done : (r : Answer) (a : seat.Answer) (u : List ℕ) (f : Found) (given : Settings) → f ≡ found dir owner → given ≡ settingsOf wish
-            → a ≡ setAnswer (ticket .opening) f number given (lentOf room (ticket .seat))
-            → u ≡ seatSet (ticket .opening) f number given (lentOf room (ticket .seat)) → told r ≡ seatTold a []
-            → (told r ≡ setTold dir ticket owner number wish room)
-            × (backIn room (ticket .seat) u ≡ setAfter dir ticket owner number wish room)
-        set-done r a u f given p q e left t =
+        pub set-end : (r : Answer) (a : seat.Answer) (u : List ℕ) (given : Settings) → given ≡ settingsOf wish
+            → a ≡ setAnswer (ticket .opening) owner number given (lentOf room (ticket .seat))
+            → u ≡ seatSet (ticket .opening) owner number given (lentOf room (ticket .seat)) → told r ≡ seatTold a []
+            → (told r ≡ setBy fit owner ticket number wish room)
+            × (backIn room (ticket .seat) u ≡ setLeft fit owner ticket number wish room)
+        set-end r a u given q e left t =
             let here = seat-lent room (ticket .seat) in (
               t ∙ ap (λ (b : seat.Answer). seatTold b [])
-                  (e ∙ ap (setAnswer (ticket .opening) f number given) here
-                  ∙ ap (λ (x : Found). setAnswer (ticket .opening) x number given (seatOf room (ticket .seat))) p
-                  ∙ ap (λ (x : Settings). setAnswer (ticket .opening) (found dir owner) number x (seatOf room (ticket .seat))) q)
+                  (e ∙ ap (setAnswer (ticket .opening) owner number given) here
+                  ∙ ap (λ (x : Settings). setAnswer (ticket .opening) owner number x (seatOf room (ticket .seat))) q)
                   ∙ set-joined,
               room-back room (ticket .seat) u
                   ∙ ap (withSeat room (ticket .seat))
-                  (left ∙ ap (seatSet (ticket .opening) f number given) here
-                  ∙ ap (λ (x : Found). seatSet (ticket .opening) x number given (seatOf room (ticket .seat))) p
-                  ∙ ap (λ (x : Settings). seatSet (ticket .opening) (found dir owner) number x (seatOf room (ticket .seat))) q)
+                  (left ∙ ap (seatSet (ticket .opening) owner number given) here
+                  ∙ ap (λ (x : Settings). seatSet (ticket .opening) owner number x (seatOf room (ticket .seat))) q)
                   ∙ set-put,
             )
 
--- set, with the directory as it was gathered
-module _ (g : Gathered) (ticket : Ticket) (owner number : ℕ) (wish : Wish) (room : List ℕ) where
-  pub set-room-unfit : roomFits room ≡ false
-      → (told RoomUnfit ≡ setTold (directoryIn g) ticket owner number wish room) × (room ≡ setAfter (directoryIn g) ticket owner number wish room)
-  set-room-unfit e = set-room-bad (directoryIn g) ticket owner number wish room e
+-- where the directory is not fit, the room is refused or the directory is: the owner does not matter
+refused-both : (good : Bool) (made other came : List ℕ)
+    → behind (cond (not good) (refused 1) (refused 2)) made came ≡ behind (cond (not good) (refused 1) (refused 2)) other came
+unfolding behind isDone
+refused-both true made other came = refl
+refused-both false made other came = refl
 
-  module _ (fit : roomFits room ≡ true) (sixteen : length (g .records) ≡ 16) where
-    pub set-unlisted : fitGathered g ≡ false
-        → (told DirectoryUnfit ≡ setTold (directoryIn g) ticket owner number wish room)
-        × (room ≡ setAfter (directoryIn g) ticket owner number wish room)
-    set-unlisted e = set-dir-bad (directoryIn g) ticket owner number wish room fit (listed-unfit g sixteen e)
+module _ (ticket : Ticket) (number : ℕ) (wish : Wish) (room : List ℕ) where
+  set-told-same : (fit : Bool) (f owner : Found) → (fit ≡ true → f ≡ owner)
+      → setBy fit f ticket number wish room ≡ setBy fit owner ticket number wish room
+  set-told-same true f owner e = ap (λ (x : Found). setBy true x ticket number wish room) (e refl)
+  set-told-same false f owner e = refl
 
-    module _ (listed : fitGathered g ≡ true) where
-      pub set-no-seat : 8 ≤ ticket .seat
-          → (told NoTicket ≡ setTold (directoryIn g) ticket owner number wish room)
-          × (room ≡ setAfter (directoryIn g) ticket owner number wish room)
-      set-no-seat h = set-seat-bad (directoryIn g) ticket owner number wish room fit (directory-is-fit g sixteen listed) h
+  set-left-same : (fit : Bool) (f owner : Found) → (fit ≡ true → f ≡ owner)
+      → setLeft fit f ticket number wish room ≡ setLeft fit owner ticket number wish room
+  set-left-same true f owner e = ap (λ (x : Found). setLeft true x ticket number wish room) (e refl)
+  set-left-same false f owner e =
+      refused-both (roomFits room)
+      (withSeat room (ticket .seat) (setIn (accountNumber f number) wish (seatOf room (ticket .seat))))
+      (withSeat room (ticket .seat) (setIn (accountNumber owner number) wish (seatOf room (ticket .seat)))) room
 
-      pub set-end : ticket .seat < 8 → (r : Answer) (a : seat.Answer) (u : List ℕ) (f : Found) (given : Settings)
-          → f ≡ found (recordsIn g) owner → given ≡ settingsOf wish
-          → a ≡ setAnswer (ticket .opening) f number given (lentOf room (ticket .seat))
-          → u ≡ seatSet (ticket .opening) f number given (lentOf room (ticket .seat)) → told r ≡ seatTold a []
-          → (told r ≡ setTold (directoryIn g) ticket owner number wish room)
-          × (backIn room (ticket .seat) u ≡ setAfter (directoryIn g) ticket owner number wish room)
-      set-end h r a u f given p q e left t =
-          subst
-          (λ (dir : List Participant).
-          (told r ≡ setTold dir ticket owner number wish room) × (backIn room (ticket .seat) u ≡ setAfter dir ticket owner number wish room))
-          (sym (directory-records g listed))
-          (set-done (recordsIn g) ticket owner number wish room fit (records-fit g sixteen listed) h r a u f given p q e left t)
+  -- set, with the directory as it was gathered
+  pub set-gathered : (g : Gathered) → length (g .records) ≡ 16 → (owner : ℕ) (fit : Bool) (f : Found) → fit ≡ fitGathered g
+      → f ≡ found (recordsIn g) owner → (r : Answer) (u : List ℕ)
+      → (told r ≡ setBy fit f ticket number wish room) × (u ≡ setLeft fit f ticket number wish room)
+      → (told r ≡ setTold (directoryIn g) ticket owner number wish room) × (u ≡ setAfter (directoryIn g) ticket owner number wish room)
+  unfolding setTold setAfter
+  set-gathered g sixteen owner fit f p q r u e =
+      let owned : Found = found (directoryIn g) owner in
+      let same : fit ≡ isFit (directoryIn g) = p ∙ directory-fit g sixteen in
+      let known : fit ≡ true → f ≡ owned = gathered-owner g owner fit f p q in (
+        e .0 ∙ set-told-same fit f owned known ∙ ap (λ (b : Bool). setBy b owned ticket number wish room) same,
+        e .1 ∙ set-left-same fit f owned known ∙ ap (λ (b : Bool). setLeft b owned ticket number wish room) same,
+      )
 
 -- a read that is done reads the account
 read-account-is : (opening : ℕ) (owner : Found) (number : ℕ) (s : List ℕ) → readAnswer opening owner number s ≡ seat-answer.Done
@@ -313,73 +318,63 @@ read-account-is : (opening : ℕ) (owner : Found) (number : ℕ) (s : List ℕ) 
 unfolding readValue
 read-account-is opening owner number s d = rw d
 
--- read, over the list of participants
-module _ (dir : List Participant) (ticket : Ticket) (owner number : ℕ) (room : List ℕ) where
-  read-room-bad : roomFits room ≡ false → told RoomUnfit ≡ readTold dir ticket owner number room
-  unfolding told readTold
-  read-room-bad e = rw e
+-- read, by what was found of the owner in a directory that is fit or not
+module _ (fit : Bool) (owner : Found) (ticket : Ticket) (number : ℕ) (room : List ℕ) where
+  pub read-room-unfit : roomFits room ≡ false → told RoomUnfit ≡ readBy fit owner ticket number room
+  unfolding told
+  read-room-unfit e = rw e
 
-  module _ (fit : roomFits room ≡ true) where
-    read-dir-bad : isFit dir ≡ false → told DirectoryUnfit ≡ readTold dir ticket owner number room
-    unfolding told readTold
-    read-dir-bad e = rw (fit, e)
+  module _ (good : roomFits room ≡ true) where
+    pub read-unlisted : fit ≡ false → told DirectoryUnfit ≡ readBy fit owner ticket number room
+    unfolding told
+    read-unlisted e = rw (good, e)
 
-    module _ (listed : isFit dir ≡ true) where
-      read-seat-bad : 8 ≤ ticket .seat → told NoTicket ≡ readTold dir ticket owner number room
-      unfolding told readTold ticketBad noSeat
-      read-seat-bad h = rw (fit, listed, le-leb 8 (ticket .seat) h)
+    module _ (listed : fit ≡ true) where
+      pub read-no-seat : 8 ≤ ticket .seat → told NoTicket ≡ readBy fit owner ticket number room
+      unfolding told ticketBad noSeat
+      read-no-seat h = rw (good, listed, le-leb 8 (ticket .seat) h)
 
       module _ (h : ticket .seat < 8) where
         abbrev accountRead : Account
-        accountRead = accountOf (seatOf room (ticket .seat)) (accountNumber (found dir owner) number)
+        accountRead = accountOf (seatOf room (ticket .seat)) (accountNumber owner number)
 
-        read-joined : seatTold (readAnswer (ticket .opening) (found dir owner) number (seatOf room (ticket .seat))) (accountRow accountRead)
-            ≡ readTold dir ticket owner number room
-        unfolding readTold ticketBad noSeat readAnswer
+        read-joined : seatTold (readAnswer (ticket .opening) owner number (seatOf room (ticket .seat))) (accountRow accountRead)
+            ≡ readBy fit owner ticket number room
+        unfolding ticketBad noSeat readAnswer
         read-joined =
-            rw (fit, listed, lt-leb 8 (ticket .seat) h)
-            (read-table (noTicket (ticket .opening) (seatOf room (ticket .seat))) (not (accountNamed (found dir owner) number))
-            (accountRow accountRead))
+            rw (good, listed, lt-leb 8 (ticket .seat) h)
+            (read-table (noTicket (ticket .opening) (seatOf room (ticket .seat))) (not (accountNamed owner number)) (accountRow accountRead))
 
-        read-done : (r : Answer) (x : Reading) (f : Found) → f ≡ found dir owner
+        pub read-end : (r : Answer) (x : Reading)
             → x ≡ record {
-              answer = readAnswer (ticket .opening) f number (lentOf room (ticket .seat));
-              account = readValue (ticket .opening) f number (lentOf room (ticket .seat));
+              answer = readAnswer (ticket .opening) owner number (lentOf room (ticket .seat));
+              account = readValue (ticket .opening) owner number (lentOf room (ticket .seat));
             }
-            → told r ≡ seatTold (x .answer) (accountRow (x .account)) → told r ≡ readTold dir ticket owner number room
-        read-done r x f p e t =
+            → told r ≡ seatTold (x .answer) (accountRow (x .account)) → told r ≡ readBy fit owner ticket number room
+        read-end r x e t =
             let here = seat-lent room (ticket .seat) in
-            let answer : x .answer ≡ readAnswer (ticket .opening) (found dir owner) number (seatOf room (ticket .seat)) =
-            ap (λ (y : Reading). y .answer) e ∙ ap (readAnswer (ticket .opening) f number) here
-            ∙ ap (λ (z : Found). readAnswer (ticket .opening) z number (seatOf room (ticket .seat))) p in
-            let account : x .account ≡ readValue (ticket .opening) (found dir owner) number (seatOf room (ticket .seat)) =
-            ap (λ (y : Reading). y .account) e ∙ ap (readValue (ticket .opening) f number) here
-            ∙ ap (λ (z : Found). readValue (ticket .opening) z number (seatOf room (ticket .seat))) p in
+            let answer : x .answer ≡ readAnswer (ticket .opening) owner number (seatOf room (ticket .seat)) =
+            ap (λ (y : Reading). y .answer) e ∙ ap (readAnswer (ticket .opening) owner number) here in
+            let account : x .account ≡ readValue (ticket .opening) owner number (seatOf room (ticket .seat)) =
+            ap (λ (y : Reading). y .account) e ∙ ap (readValue (ticket .opening) owner number) here in
             t ∙ told-with (x .answer) (accountRow (x .account)) (accountRow accountRead)
             (λ (d : x .answer ≡ seat-answer.Done).
-            ap accountRow (account ∙ read-account-is (ticket .opening) (found dir owner) number (seatOf room (ticket .seat)) (sym answer ∙ d)))
+            ap accountRow (account ∙ read-account-is (ticket .opening) owner number (seatOf room (ticket .seat)) (sym answer ∙ d)))
             ∙ ap (λ (b : seat.Answer). seatTold b (accountRow accountRead)) answer
             ∙ read-joined
 
--- read, with the directory as it was gathered
-module _ (g : Gathered) (ticket : Ticket) (owner number : ℕ) (room : List ℕ) where
-  pub read-room-unfit : roomFits room ≡ false → told RoomUnfit ≡ readTold (directoryIn g) ticket owner number room
-  read-room-unfit e = read-room-bad (directoryIn g) ticket owner number room e
+module _ (ticket : Ticket) (number : ℕ) (room : List ℕ) where
+  read-told-same : (fit : Bool) (f owner : Found) → (fit ≡ true → f ≡ owner)
+      → readBy fit f ticket number room ≡ readBy fit owner ticket number room
+  read-told-same true f owner e = ap (λ (x : Found). readBy true x ticket number room) (e refl)
+  read-told-same false f owner e = refl
 
-  module _ (fit : roomFits room ≡ true) (sixteen : length (g .records) ≡ 16) where
-    pub read-unlisted : fitGathered g ≡ false → told DirectoryUnfit ≡ readTold (directoryIn g) ticket owner number room
-    read-unlisted e = read-dir-bad (directoryIn g) ticket owner number room fit (listed-unfit g sixteen e)
-
-    module _ (listed : fitGathered g ≡ true) where
-      pub read-no-seat : 8 ≤ ticket .seat → told NoTicket ≡ readTold (directoryIn g) ticket owner number room
-      read-no-seat h = read-seat-bad (directoryIn g) ticket owner number room fit (directory-is-fit g sixteen listed) h
-
-      pub read-end : ticket .seat < 8 → (r : Answer) (x : Reading) (f : Found) → f ≡ found (recordsIn g) owner
-          → x ≡ record {
-            answer = readAnswer (ticket .opening) f number (lentOf room (ticket .seat));
-            account = readValue (ticket .opening) f number (lentOf room (ticket .seat));
-          }
-          → told r ≡ seatTold (x .answer) (accountRow (x .account)) → told r ≡ readTold (directoryIn g) ticket owner number room
-      read-end h r x f p e t =
-          subst (λ (dir : List Participant). told r ≡ readTold dir ticket owner number room) (sym (directory-records g listed))
-          (read-done (recordsIn g) ticket owner number room fit (records-fit g sixteen listed) h r x f p e t)
+  -- read, with the directory as it was gathered
+  pub read-gathered : (g : Gathered) → length (g .records) ≡ 16 → (owner : ℕ) (fit : Bool) (f : Found) → fit ≡ fitGathered g
+      → f ≡ found (recordsIn g) owner → (r : Answer) → told r ≡ readBy fit f ticket number room
+      → told r ≡ readTold (directoryIn g) ticket owner number room
+  unfolding readTold
+  read-gathered g sixteen owner fit f p q r e =
+      let owned : Found = found (directoryIn g) owner in
+      e ∙ read-told-same fit f owned (gathered-owner g owner fit f p q)
+      ∙ ap (λ (b : Bool). readBy b owned ticket number room) (p ∙ directory-fit g sixteen)

@@ -134,7 +134,7 @@ module _ (dir : List Participant) (ticket : Ticket) (owner number : ℕ) (wish :
   seatSet = setIn (accountNumber (found dir owner) number) wish (seatOf room (ticket .seat))
 
   set-made : told Done ≡ setTold dir ticket owner number wish room → setAfter dir ticket owner number wish room ≡ withSeat room (ticket .seat) seatSet
-  unfolding setAfter told isDone
+  unfolding setTold setAfter told isDone
   set-made e = behind-done (setTold dir ticket owner number wish room) (withSeat room (ticket .seat) seatSet) room (ap isDone (sym e))
 
   pub sets-without-a-step : told Done ≡ setTold dir ticket owner number wish room → room ≡ setAfter dir ticket owner number wish room → ⊥

@@ -15,10 +15,14 @@ use Rattle.centre.proofs.calls.open_among.Kinds as open-among-kinds
 use Rattle.centre.proofs.calls.open_among.Reads as open-among-reads
 use Rattle.centre.proofs.calls.close_seat.Kinds as close-seat-kinds
 use Rattle.centre.proofs.calls.close_seat.Reads as close-seat-reads
+use Rattle.centre.proofs.calls.set_found.Kinds as set-found-kinds
+use Rattle.centre.proofs.calls.set_found.Reads as set-found-reads
 use Rattle.centre.proofs.calls.set_among.Kinds as set-among-kinds
 use Rattle.centre.proofs.calls.set_among.Reads as set-among-reads
 use Rattle.centre.proofs.calls.take_back.Kinds as take-back-kinds
 use Rattle.centre.proofs.calls.take_back.Reads as take-back-reads
+use Rattle.centre.proofs.calls.read_found.Kinds as read-found-kinds
+use Rattle.centre.proofs.calls.read_found.Reads as read-found-reads
 use Rattle.centre.proofs.calls.read_among.Kinds as read-among-kinds
 use Rattle.centre.proofs.calls.read_among.Reads as read-among-reads
 use Rattle.centre.proofs.submit.submit_among.Kinds as submit-among-kinds
@@ -44,11 +48,17 @@ open-among κs a x y e f = by-told-and-left x y
 pub close-seat : SettledWith _ close-seat-kinds.ps close-seat-kinds.r close-seat-reads.Post (List ℕ) (λ κs e. now (e .0))
 close-seat κs a x y e f = by-told-and-left x y
 
+pub set-found : SettledWith _ set-found-kinds.ps set-found-kinds.r set-found-reads.Post (List ℕ) (λ κs e. now (e .0))
+set-found κs a x y e f = by-told-and-left x y
+
 pub set-among : SettledWith _ set-among-kinds.ps set-among-kinds.r set-among-reads.Post (List ℕ) (λ κs e. now (e .0))
 set-among κs a x y e f = by-told-and-left x y
 
 pub take-back : SettledWith _ take-back-kinds.ps take-back-kinds.r take-back-reads.Post (List ℕ) (λ κs e. now (e .0))
 take-back κs a x y e f = by-told-and-left x y
+
+pub read-found : Settled _ read-found-kinds.ps read-found-kinds.r read-found-reads.Post
+read-found κs a x y e f = by-told x y
 
 pub read-among : Settled _ read-among-kinds.ps read-among-kinds.r read-among-reads.Post
 read-among κs a x y e f = by-told x y

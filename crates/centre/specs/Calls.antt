@@ -7,6 +7,7 @@ use lib.Dec.{leb, eqb}
 use lib.ListN.{length, replicate}
 use Rattle.slip.specs.Meaning.{seats, openings, steps}
 use Rattle.directory.specs.declared.Participant.{Participant}
+use Rattle.directory.specs.declared.Found.{Found}
 use Rattle.directory.specs.Directory.{found, isFit}
 use Rattle.layout.specs.Rows.{accountRow}
 use Rattle.layout.specs.Seat.{roomLong, headOf, accountOf, seatOf, withSeat}
@@ -56,25 +57,31 @@ unfoldable pub closeAfter : Ticket → List ℕ → List ℕ
 closeAfter ticket room =
     behind (closeTold ticket room) (withSeat room (ticket .seat) (closedSeat (headOf (seatOf room (ticket .seat)) .opening))) room
 
--- set an account's blocks and limits, all four at once, as one step
-unfoldable pub setTold : List Participant → Ticket → ℕ → ℕ → Wish → List ℕ → Told
-setTold dir ticket owner number wish room =
+-- set an account's blocks and limits, all four at once, as one step. Of the directory it matters whether it is fit and what is found of the owner
+abbrev pub setBy : Bool → Found → Ticket → ℕ → Wish → List ℕ → Told
+setBy fit owner ticket number wish room =
     first (
     (not (roomFits room), refused 1)
-    ∷ (not (isFit dir), refused 2)
+    ∷ (not fit, refused 2)
     ∷ (ticketBad ticket room, refused 3)
-    ∷ (not (accountNamed (found dir owner) number && settingsFit (settingsOf wish)), refused 6)
+    ∷ (not (accountNamed owner number && settingsFit (settingsOf wish)), refused 6)
     ∷ (eqb (headOf (seatOf room (ticket .seat)) .steps) steps, refused 9)
     ∷ []) (done [])
+
+unfoldable pub setTold : List Participant → Ticket → ℕ → ℕ → Wish → List ℕ → Told
+setTold dir ticket owner number wish room = setBy (isFit dir) (found dir owner) ticket number wish room
 
 -- the seat with that step
 unfoldable pub setIn : ℕ → Wish → List ℕ → List ℕ
 setIn account wish s = stepped (setStep account (accountOf s account .settings) (settingsOf wish)) s
 
+abbrev pub setLeft : Bool → Found → Ticket → ℕ → Wish → List ℕ → List ℕ
+setLeft fit owner ticket number wish room =
+    behind (setBy fit owner ticket number wish room)
+    (withSeat room (ticket .seat) (setIn (accountNumber owner number) wish (seatOf room (ticket .seat)))) room
+
 unfoldable pub setAfter : List Participant → Ticket → ℕ → ℕ → Wish → List ℕ → List ℕ
-setAfter dir ticket owner number wish room =
-    behind (setTold dir ticket owner number wish room)
-    (withSeat room (ticket .seat) (setIn (accountNumber (found dir owner) number) wish (seatOf room (ticket .seat)))) room
+setAfter dir ticket owner number wish room = setLeft (isFit dir) (found dir owner) ticket number wish room
 
 -- take back the last step
 unfoldable pub backTold : Ticket → List ℕ → Told
@@ -90,11 +97,14 @@ backAfter ticket room =
     behind (backTold ticket room) (withSeat room (ticket .seat) (backed (seatOf room (ticket .seat)))) room
 
 -- read an account: all it holds
-unfoldable pub readTold : List Participant → Ticket → ℕ → ℕ → List ℕ → Told
-readTold dir ticket owner number room =
+abbrev pub readBy : Bool → Found → Ticket → ℕ → List ℕ → Told
+readBy fit owner ticket number room =
     first (
     (not (roomFits room), refused 1)
-    ∷ (not (isFit dir), refused 2)
+    ∷ (not fit, refused 2)
     ∷ (ticketBad ticket room, refused 3)
-    ∷ (not (accountNamed (found dir owner) number), refused 6)
-    ∷ []) (done (accountRow (accountOf (seatOf room (ticket .seat)) (accountNumber (found dir owner) number))))
+    ∷ (not (accountNamed owner number), refused 6)
+    ∷ []) (done (accountRow (accountOf (seatOf room (ticket .seat)) (accountNumber owner number))))
+
+unfoldable pub readTold : List Participant → Ticket → ℕ → ℕ → List ℕ → Told
+readTold dir ticket owner number room = readBy (isFit dir) (found dir owner) ticket number room

@@ -1,6 +1,7 @@
 // The calls of a room that need no message. Each tests the room, then the directory, then the seat; what is left is the seat's own call.
 use crate::Answer;
 use crate::Ticket;
+use directory::Found;
 use directory::Gathered;
 use directory::find_in;
 use directory::fits;
@@ -17,11 +18,13 @@ use seat::set_account;
 use seat::settings_of;
 use slip::SEATS;
 ghost use mathlib.Core.Path.{_≡_};
+ghost use mathlib.Core.Bool.{true};
 ghost use mathlib.Core.List.{[], _∷_};
 ghost use Rattle.directory.specs.Gathering.{directoryIn};
 ghost use Rattle.layout.specs.Rows.{accountRow};
+ghost use Rattle.seat.specs.Calls.{placeFits};
 ghost use Rattle.centre.specs.Answers.{told, seatTold};
-ghost use Rattle.centre.specs.Calls.{layTold, layAfter, openTold, openAfter, closeTold, closeAfter, setTold, setAfter, backTold, backAfter, readTold};
+ghost use Rattle.centre.specs.Calls.{layTold, layAfter, openTold, openAfter, closeTold, closeAfter, setBy, setLeft, setTold, setAfter, backTold, backAfter, readBy, readTold};
 
 // Lays out a room: everything is zero.
 pub fn lay_out(room: &mut [u64]) -> Answer
@@ -103,7 +106,36 @@ pub fn close_seat(room: &mut [u64], ticket: Ticket) -> Answer
     of_seat(answer)
 }
 
-// Sets an account's blocks and limits, as one step.
+// Sets an account's blocks and limits, as one step, by what was found of its owner in a directory that is fit or not.
+pub fn set_found(
+    room: &mut [u64],
+    fit: bool,
+    owner: Found,
+    ticket: Ticket,
+    number: u64,
+    wish: Wish,
+) -> Answer
+    requires { ⌜ (fit ≡ true → placeFits owner ≡ true) ⌝ }
+    ensures { λ r. ⌜ told r ≡ setBy fit owner ticket number wish (now (room .entry)) ⌝ }
+    ensures { λ _. ⌜ now (room .exit) ≡ setLeft fit owner ticket number wish (now (room .entry)) ⌝ }
+{
+    if !room_fits(room) {
+        return Answer::RoomUnfit;
+    }
+    if !fit {
+        return Answer::DirectoryUnfit;
+    }
+    if SEATS <= ticket.seat {
+        return Answer::NoTicket;
+    }
+    let given = settings_of(wish);
+    let from = SEAT_LONG * ticket.seat as usize;
+    let to = from + SEAT_LONG;
+    let answer = set_account(&mut room[from..to], ticket.opening, owner, number, given);
+    of_seat(answer)
+}
+
+// The same among gathered records.
 pub fn set_among(
     room: &mut [u64],
     g: Gathered,
@@ -115,21 +147,9 @@ pub fn set_among(
     ensures { λ r. ⌜ told r ≡ setTold (directoryIn g) ticket owner number wish (now (room .entry)) ⌝ }
     ensures { λ _. ⌜ now (room .exit) ≡ setAfter (directoryIn g) ticket owner number wish (now (room .entry)) ⌝ }
 {
-    if !room_fits(room) {
-        return Answer::RoomUnfit;
-    }
-    if !fits(g) {
-        return Answer::DirectoryUnfit;
-    }
-    if SEATS <= ticket.seat {
-        return Answer::NoTicket;
-    }
     let found = find_in(g, owner);
-    let given = settings_of(wish);
-    let from = SEAT_LONG * ticket.seat as usize;
-    let to = from + SEAT_LONG;
-    let answer = set_account(&mut room[from..to], ticket.opening, found, number, given);
-    of_seat(answer)
+    let fit = fits(g);
+    set_found(room, fit, found, ticket, number, wish)
 }
 
 // Takes back the last step.
@@ -164,23 +184,32 @@ fn of_reading(answer: seat::Answer, account: Account) -> Answer
     }
 }
 
-// Reads all that an account holds.
-pub fn read_among(room: &[u64], g: Gathered, ticket: Ticket, owner: u64, number: u64) -> Answer
-    ensures { λ r. ⌜ told r ≡ readTold (directoryIn g) ticket owner number (now (room .entry)) ⌝ }
+// Reads all that an account holds, by what was found of its owner in a directory that is fit or not.
+pub fn read_found(room: &[u64], fit: bool, owner: Found, ticket: Ticket, number: u64) -> Answer
+    requires { ⌜ (fit ≡ true → placeFits owner ≡ true) ⌝ }
+    ensures { λ r. ⌜ told r ≡ readBy fit owner ticket number (now (room .entry)) ⌝ }
 {
     if !room_fits(room) {
         return Answer::RoomUnfit;
     }
-    if !fits(g) {
+    if !fit {
         return Answer::DirectoryUnfit;
     }
     if SEATS <= ticket.seat {
         return Answer::NoTicket;
     }
-    let found = find_in(g, owner);
     let from = SEAT_LONG * ticket.seat as usize;
     let to = from + SEAT_LONG;
-    let reading = read_account(&room[from..to], ticket.opening, found, number);
+    let reading = read_account(&room[from..to], ticket.opening, owner, number);
     let answer = reading.answer;
     of_reading(answer, reading.account)
+}
+
+// The same among gathered records.
+pub fn read_among(room: &[u64], g: Gathered, ticket: Ticket, owner: u64, number: u64) -> Answer
+    ensures { λ r. ⌜ told r ≡ readTold (directoryIn g) ticket owner number (now (room .entry)) ⌝ }
+{
+    let found = find_in(g, owner);
+    let fit = fits(g);
+    read_found(room, fit, found, ticket, number)
 }

@@ -4,6 +4,7 @@
 // The calls that need a directory take it here as it was gathered (`directory::gather`).
 
 mod calls;
+mod lent;
 mod slips;
 mod submit;
 
@@ -14,6 +15,7 @@ pub use calls::read_among;
 pub use calls::set_among;
 pub use calls::take_back;
 use layout::rows::Account;
+pub use lent::open_seat;
 use slip::Slip;
 pub use slips::read_slip;
 pub use slips::write_slip;

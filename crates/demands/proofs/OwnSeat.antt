@@ -107,7 +107,7 @@ module _ (dir : List Participant) (room : List ℕ) (fit : roomFits room ≡ tru
     act-room : (act : Act)
         → actRoom dir ticket act room
         ≡ behind (actTold dir ticket act room) (withSeat room (ticket .seat) (actMakes dir act (seatOf room (ticket .seat)))) room
-    unfolding actRoom actMakes actTold closeAfter setAfter submitAfter backAfter
+    unfolding actRoom actMakes actTold closeAfter setTold setAfter submitAfter backAfter
     act-room close = refl
     act-room (set owner number wish) = refl
     act-room (submit sender today sheet slip) = refl
@@ -200,7 +200,7 @@ module _ (dir : List Participant) (room : List ℕ) (fit : roomFits room ≡ tru
   open-refused seat sums out = rw (fit, out) (refused-either (isFit dir))
 
   act-stays : (ticket : Ticket) (act : Act) → isDone (actTold dir ticket act room) ≡ false → actRoom dir ticket act room ≡ room
-  unfolding actTold actRoom closeAfter setAfter submitAfter backAfter
+  unfolding actTold actRoom closeAfter setTold setAfter submitAfter backAfter
   act-stays ticket close e = behind-refused (closeTold ticket room) _ room e
   act-stays ticket (set owner number wish) e = behind-refused (setTold dir ticket owner number wish room) _ room e
   act-stays ticket (submit sender today sheet slip) e = behind-refused (submitTold dir ticket sender today sheet slip room) _ room e

@@ -2,7 +2,7 @@
 use mathlib.Core.Path.{sym, _∙_}
 use lib.ListN.{length-map}
 use borrow.Author.Tests.{not-true, not-false}
-use Rattle.centre.proofs.Lent.{seat-ends, lent-long, lent-fits, back-ends}
+use Rattle.centre.proofs.SeatLent.{seat-ends, lent-long, lent-fits, back-ends}
 use Rattle.centre.proofs.Listed.{listed-few}
 use Rattle.centre.proofs.Refusals.{open-room-unfit, open-unlisted, open-no-seat, open-end}
 use borrow.Author.Needs.{needs}

@@ -1,75 +1,22 @@
--- The room, the directory and the seat are tested first; what is left is the seat's own call on its part of the room.
-use mathlib.Core.Path.{sym, _∙_}
+-- What the test and the search among the records give is what the directory that was gathered gives, where that matters.
 use lib.ListN.{length-map}
-use borrow.Author.Tests.{not-true, not-false}
-use Rattle.centre.proofs.Lent.{seat-ends, lent-long}
-use Rattle.centre.proofs.Listed.{owner-fits}
-use Rattle.centre.proofs.Refusals.{read-room-unfit, read-unlisted, read-no-seat, read-end}
+use Rattle.centre.proofs.Listed.{gathered-place}
+use Rattle.centre.proofs.Refusals.{read-gathered}
 use borrow.Author.Needs.{needs}
 use Rattle.centre.proofs.calls.read_among.Statement.{statement}
 use Rattle.centre.proofs.calls.read_among.Tie as tie
 
-room-fits-requires : tie.Need-room-fits-requires
-room-fits-requires c κs = tt
-
-returns : tie.Need-returns
-returns c = read-room-unfit (c .before .before .before .args .g) (c .before .before .before .args .ticket) (c .before .before .before .args .owner) (c .before .before .before .args .number) (c .before .before .before .args .room .now) (sym (c .before .room-fits .ensures) ∙ not-true _ (c .if1 .taken))
+find-in-requires : tie.Need-find-in-requires
+find-in-requires c κs = tt
 
 fits-requires : tie.Need-fits-requires
 fits-requires c κs = tt
 
-returns-2 : tie.Need-returns-2
-returns-2 c = read-unlisted (c .before .before .before .before .before .args .g) (c .before .before .before .before .before .args .ticket) (c .before .before .before .before .before .args .owner) (c .before .before .before .before .before .args .number) (c .before .before .before .before .before .args .room .now) (sym (c .before .before .before .room-fits .ensures) ∙ not-false _ (c .before .before .if1 .left)) (simp length-map at (c .before .before .before .before .before .good .1 .0 .1 .1 .1 .0 .1 .0 .1)) (sym (c .before .fits2 .ensures) ∙ not-true _ (c .if2 .taken))
+read-found-requires : tie.Need-read-found-requires
+read-found-requires c κs = gathered-place (c .before .before .before .args .g) (c .before .before .before .args .owner) (c .fits2 .result) (c .before .find-in .result) (c .fits2 .ensures) (c .before .find-in .ensures) (simp length-map at (c .before .before .before .good .1 .0 .1 .1 .1 .0 .1 .0 .1))
 
-returns-3 : tie.Need-returns-3
-returns-3 c = read-no-seat (c .before .before .before .before .before .before .before .args .g) (c .before .before .before .before .before .before .before .args .ticket) (c .before .before .before .before .before .before .before .args .owner) (c .before .before .before .before .before .before .before .args .number) (c .before .before .before .before .before .before .before .args .room .now) (sym (c .before .before .before .before .before .room-fits .ensures) ∙ not-false _ (c .before .before .before .before .if1 .left)) (simp length-map at (c .before .before .before .before .before .before .before .good .1 .0 .1 .1 .1 .0 .1 .0 .1)) (sym (c .before .before .before .fits2 .ensures) ∙ not-false _ (c .before .before .if2 .left)) (c .if3 .taken)
-
-find-in-requires : tie.Need-find-in-requires
-find-in-requires c κs = tt
-
-mul-from : tie.Need-mul-from
-mul-from c = search needs
-
-add-to : tie.Need-add-to
-add-to c = search needs
-
-mul-read-account : tie.Need-mul-read-account
-mul-read-account c = search needs
-
-sub-read-account : tie.Need-sub-read-account
-sub-read-account c = search needs
-
-part-read-account-start : tie.Need-part-read-account-start
-part-read-account-start c = search needs
-
-part-read-account-end : tie.Need-part-read-account-end
-part-read-account-end c = seat-ends (c .before .before .before .before .before .before .before .before .args .room .now) (sym (c .before .before .before .before .before .before .room-fits .ensures) ∙ not-false _ (c .before .before .before .before .before .if1 .left)) (c .before .before .before .before .before .before .before .before .args .ticket .seat) (c .before .if3 .left)
-
-read-account-requires : tie.Need-read-account-requires
-read-account-requires c κs = (lent-long (c .before .before .before .before .before .before .before .before .before .args .room .now) (sym (c .before .before .before .before .before .before .before .room-fits .ensures) ∙ not-false _ (c .before .before .before .before .before .before .if1 .left)) (c .before .before .before .before .before .before .before .before .before .args .ticket .seat) (c .before .before .if3 .left), owner-fits (c .before .before .before .before .before .before .before .before .before .args .g) (simp length-map at (c .before .before .before .before .before .before .before .before .before .good .1 .0 .1 .1 .1 .0 .1 .0 .1)) (sym (c .before .before .before .before .before .fits2 .ensures) ∙ not-false _ (c .before .before .before .before .if2 .left)) (c .before .before .before .before .before .before .before .before .before .args .owner) (c .before .find-in .result) (c .before .find-in .ensures))
-
-of-reading-requires : tie.Need-of-reading-requires
-of-reading-requires c κs = tt
-
-returns-4 : tie.Need-returns-4
-returns-4 c = read-end (c .before .before .before .before .before .before .before .before .before .before .before .args .g) (c .before .before .before .before .before .before .before .before .before .before .before .args .ticket) (c .before .before .before .before .before .before .before .before .before .before .before .args .owner) (c .before .before .before .before .before .before .before .before .before .before .before .args .number) (c .before .before .before .before .before .before .before .before .before .before .before .args .room .now) (sym (c .before .before .before .before .before .before .before .before .before .room-fits .ensures) ∙ not-false _ (c .before .before .before .before .before .before .before .before .if1 .left)) (simp length-map at (c .before .before .before .before .before .before .before .before .before .before .before .good .1 .0 .1 .1 .1 .0 .1 .0 .1)) (sym (c .before .before .before .before .before .before .before .fits2 .ensures) ∙ not-false _ (c .before .before .before .before .before .before .if2 .left)) (c .before .before .before .before .if3 .left) (c .of-reading .result) (c .before .read-account .result) (c .before .before .before .find-in .result) (c .before .before .before .find-in .ensures) (c .before .read-account .ensures) (c .of-reading .ensures)
+returns : tie.Need-returns
+returns c = read-gathered (c .before .before .before .before .args .ticket) (c .before .before .before .before .args .number) (c .before .before .before .before .args .room .now) (c .before .before .before .before .args .g) (simp length-map at (c .before .before .before .before .good .1 .0 .1 .1 .1 .0 .1 .0 .1)) (c .before .before .before .before .args .owner) (c .before .fits2 .result) (c .before .before .find-in .result) (c .before .fits2 .ensures) (c .before .before .find-in .ensures) (c .read-found .result) (c .read-found .ensures)
 
 pub read-among-spec : {M : Type 1} → statement M
-read-among-spec =
-    tie.close
-    (tie.spec
-    room-fits-requires
-    returns
-    fits-requires
-    returns-2
-    returns-3
-    find-in-requires
-    mul-from
-    add-to
-    mul-read-account
-    sub-read-account
-    part-read-account-start
-    part-read-account-end
-    read-account-requires
-    of-reading-requires
-    returns-4)
+read-among-spec = tie.close (tie.spec find-in-requires fits-requires read-found-requires returns)

@@ -1,95 +1,26 @@
--- The room, the directory and the seat are tested first; what is left is the seat's own call on its part of the room.
-use mathlib.Core.Path.{sym, _∙_}
+-- What the test and the search among the records give is what the directory that was gathered gives, where that matters.
 use lib.ListN.{length-map}
-use borrow.Author.Tests.{not-true, not-false}
-use Rattle.centre.proofs.Lent.{seat-ends, lent-long, lent-fits}
-use Rattle.centre.proofs.Listed.{owner-fits}
-use Rattle.centre.proofs.Refusals.{set-room-unfit, set-unlisted, set-no-seat, set-end}
+use Rattle.centre.proofs.Listed.{gathered-place}
+use Rattle.centre.proofs.Refusals.{set-gathered}
 use borrow.Author.Needs.{needs}
 use Rattle.centre.proofs.calls.set_among.Statement.{statement}
 use Rattle.centre.proofs.calls.set_among.Tie as tie
 
-room-fits-requires : tie.Need-room-fits-requires
-room-fits-requires c κs = tt
+find-in-requires : tie.Need-find-in-requires
+find-in-requires c κs = tt
+
+fits-requires : tie.Need-fits-requires
+fits-requires c κs = tt
+
+set-found-requires : tie.Need-set-found-requires
+set-found-requires c κs = gathered-place (c .before .before .before .before .args .g) (c .before .before .before .before .args .owner) (c .before .fits2 .result) (c .before .before .find-in .result) (c .before .fits2 .ensures) (c .before .before .find-in .ensures) (simp length-map at (c .before .before .before .before .good .1 .0 .1 .1 .1 .0 .1 .0 .1))
 
 same-length : tie.Need-same-length
 same-length c = search needs
 
 returns : tie.Need-returns
-returns c = set-room-unfit (c .before .before .before .before .args .g) (c .before .before .before .before .args .ticket) (c .before .before .before .before .args .owner) (c .before .before .before .before .args .number) (c .before .before .before .before .args .wish) (c .before .before .before .before .args .room .now) (sym (c .before .room-fits .ensures) ∙ not-true _ (c .if1 .taken))
-
-fits-requires : tie.Need-fits-requires
-fits-requires c κs = tt
-
-same-length-2 : tie.Need-same-length-2
-same-length-2 c = search needs
-
-returns-2 : tie.Need-returns-2
-returns-2 c = set-unlisted (c .before .before .before .before .before .before .args .g) (c .before .before .before .before .before .before .args .ticket) (c .before .before .before .before .before .before .args .owner) (c .before .before .before .before .before .before .args .number) (c .before .before .before .before .before .before .args .wish) (c .before .before .before .before .before .before .args .room .now) (sym (c .before .before .before .room-fits .ensures) ∙ not-false _ (c .before .before .if1 .left)) (simp length-map at (c .before .before .before .before .before .before .good .1 .0 .1 .1 .1 .0 .1 .0 .1)) (sym (c .before .fits2 .ensures) ∙ not-true _ (c .if2 .taken))
-
-same-length-3 : tie.Need-same-length-3
-same-length-3 c = search needs
-
-returns-3 : tie.Need-returns-3
-returns-3 c = set-no-seat (c .before .before .before .before .before .before .before .before .args .g) (c .before .before .before .before .before .before .before .before .args .ticket) (c .before .before .before .before .before .before .before .before .args .owner) (c .before .before .before .before .before .before .before .before .args .number) (c .before .before .before .before .before .before .before .before .args .wish) (c .before .before .before .before .before .before .before .before .args .room .now) (sym (c .before .before .before .before .before .room-fits .ensures) ∙ not-false _ (c .before .before .before .before .if1 .left)) (simp length-map at (c .before .before .before .before .before .before .before .before .good .1 .0 .1 .1 .1 .0 .1 .0 .1)) (sym (c .before .before .before .fits2 .ensures) ∙ not-false _ (c .before .before .if2 .left)) (c .if3 .taken)
-
-find-in-requires : tie.Need-find-in-requires
-find-in-requires c κs = tt
-
-settings-of-requires : tie.Need-settings-of-requires
-settings-of-requires c κs = tt
-
-mul-from : tie.Need-mul-from
-mul-from c = search needs
-
-add-to : tie.Need-add-to
-add-to c = search needs
-
-mul-set-account : tie.Need-mul-set-account
-mul-set-account c = search needs
-
-sub-set-account : tie.Need-sub-set-account
-sub-set-account c = search needs
-
-part-set-account-start : tie.Need-part-set-account-start
-part-set-account-start c = search needs
-
-part-set-account-end : tie.Need-part-set-account-end
-part-set-account-end c = seat-ends (c .before .before .before .before .before .before .before .before .before .before .args .room .now) (sym (c .before .before .before .before .before .before .before .room-fits .ensures) ∙ not-false _ (c .before .before .before .before .before .before .if1 .left)) (c .before .before .before .before .before .before .before .before .before .before .args .ticket .seat) (c .before .before .if3 .left)
-
-set-account-requires : tie.Need-set-account-requires
-set-account-requires c κs = (lent-long (c .before .before .before .before .before .before .before .before .before .before .before .args .room .now) (sym (c .before .before .before .before .before .before .before .before .room-fits .ensures) ∙ not-false _ (c .before .before .before .before .before .before .before .if1 .left)) (c .before .before .before .before .before .before .before .before .before .before .before .args .ticket .seat) (c .before .before .before .if3 .left), lent-fits (c .before .before .before .before .before .before .before .before .before .before .before .args .room .now) (sym (c .before .before .before .before .before .before .before .before .room-fits .ensures) ∙ not-false _ (c .before .before .before .before .before .before .before .if1 .left)) (c .before .before .before .before .before .before .before .before .before .before .before .args .ticket .seat) (c .before .before .before .if3 .left), owner-fits (c .before .before .before .before .before .before .before .before .before .before .before .args .g) (simp length-map at (c .before .before .before .before .before .before .before .before .before .before .before .good .1 .0 .1 .1 .1 .0 .1 .0 .1)) (sym (c .before .before .before .before .before .before .fits2 .ensures) ∙ not-false _ (c .before .before .before .before .before .if2 .left)) (c .before .before .before .before .before .before .before .before .before .before .before .args .owner) (c .before .before .find-in .result) (c .before .before .find-in .ensures))
-
-of-seat-requires : tie.Need-of-seat-requires
-of-seat-requires c κs = tt
-
-same-length-4 : tie.Need-same-length-4
-same-length-4 c = search needs
-
-returns-4 : tie.Need-returns-4
-returns-4 c = set-end (c .before .before .before .before .before .before .before .before .before .before .before .before .before .before .before .args .g) (c .before .before .before .before .before .before .before .before .before .before .before .before .before .before .before .args .ticket) (c .before .before .before .before .before .before .before .before .before .before .before .before .before .before .before .args .owner) (c .before .before .before .before .before .before .before .before .before .before .before .before .before .before .before .args .number) (c .before .before .before .before .before .before .before .before .before .before .before .before .before .before .before .args .wish) (c .before .before .before .before .before .before .before .before .before .before .before .before .before .before .before .args .room .now) (sym (c .before .before .before .before .before .before .before .before .before .before .before .before .room-fits .ensures) ∙ not-false _ (c .before .before .before .before .before .before .before .before .before .before .before .if1 .left)) (simp length-map at (c .before .before .before .before .before .before .before .before .before .before .before .before .before .before .before .good .1 .0 .1 .1 .1 .0 .1 .0 .1)) (sym (c .before .before .before .before .before .before .before .before .before .before .fits2 .ensures) ∙ not-false _ (c .before .before .before .before .before .before .before .before .before .if2 .left)) (c .before .before .before .before .before .before .before .if3 .left) (c .of-seat .result) (c .before .before .before .set-account .result) (c .before .before .before .set-account .last .0) (c .before .before .before .before .before .before .find-in .result) (c .before .before .before .before .before .settings-of .result) (c .before .before .before .before .before .before .find-in .ensures) (c .before .before .before .before .before .settings-of .ensures) (c .before .before .before .set-account .ensures .0) (c .before .before .before .set-account .ensures .1) (c .of-seat .ensures)
+returns c = set-gathered (c .before .before .before .before .before .before .before .args .ticket) (c .before .before .before .before .before .before .before .args .number) (c .before .before .before .before .before .before .before .args .wish) (c .before .before .before .before .before .before .before .args .room .now) (c .before .before .before .before .before .before .before .args .g) (simp length-map at (c .before .before .before .before .before .before .before .good .1 .0 .1 .1 .1 .0 .1 .0 .1)) (c .before .before .before .before .before .before .before .args .owner) (c .before .before .before .before .fits2 .result) (c .before .before .before .before .before .find-in .result) (c .before .before .before .before .fits2 .ensures) (c .before .before .before .before .before .find-in .ensures) (c .before .before .set-found .result) (c .before .before .set-found .last .0) (c .before .before .set-found .ensures)
 
 pub set-among-spec : {M : Type 1} → statement M
 set-among-spec =
-    tie.close
-    (tie.spec
-    room-fits-requires
-    same-length
-    returns
-    fits-requires
-    same-length-2
-    returns-2
-    same-length-3
-    returns-3
-    find-in-requires
-    settings-of-requires
-    mul-from
-    add-to
-    mul-set-account
-    sub-set-account
-    part-set-account-start
-    part-set-account-end
-    set-account-requires
-    of-seat-requires
-    same-length-4
-    returns-4)
+    tie.close (tie.spec find-in-requires fits-requires set-found-requires same-length returns)

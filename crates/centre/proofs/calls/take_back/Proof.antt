@@ -1,7 +1,7 @@
 -- The room and the seat are tested first; what is left is the seat's own call on its part of the room.
 use mathlib.Core.Path.{sym, _∙_}
 use borrow.Author.Tests.{not-true, not-false}
-use Rattle.centre.proofs.Lent.{seat-ends, lent-long, lent-fits}
+use Rattle.centre.proofs.SeatLent.{seat-ends, lent-long, lent-fits}
 use Rattle.centre.proofs.Refusals.{back-room-unfit, back-no-seat, back-end}
 use borrow.Author.Needs.{needs}
 use Rattle.centre.proofs.calls.take_back.Statement.{statement}
