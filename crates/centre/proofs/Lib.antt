@@ -2,6 +2,8 @@ pub mod First
 pub mod Joined
 pub mod Judged
 pub mod LentDirectories
+pub mod LentFits
+pub mod LentFound
 pub mod LentWalks
 pub mod Listed
 pub mod Passes

@@ -1,7 +1,7 @@
 // The centre: the nine calls on a whole room, with every refusal in its order. Document 01, "Calls and refusals".
 // A refused call leaves the room and the slip buffer as they came. The answers and their numbers stand in `specs/Answers.antt`, the calls in
 // `specs/Calls.antt`, submit in `specs/Submit.antt`, the slip calls in `specs/Slips.antt`.
-// The calls that need a directory take it here as it was gathered (`directory::gather`).
+// The calls that need a directory take it as a lent slice of records, or as it was gathered (`.._among`).
 
 mod calls;
 mod lent;
@@ -16,6 +16,9 @@ pub use calls::set_among;
 pub use calls::take_back;
 use layout::rows::Account;
 pub use lent::open_seat;
+pub use lent::read_account;
+pub use lent::set_account;
+pub use lent::submit_sheet;
 use slip::Slip;
 pub use slips::read_slip;
 pub use slips::write_slip;
