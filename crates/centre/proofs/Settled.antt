@@ -6,8 +6,13 @@ use mathlib.Core.List.{List}
 use Prim.Native.Nat.{ℕ}
 use denote.Ref.{now}
 use Rattle.shape.proofs.Single.{Settled, SettledWith, by-equation}
+use Rattle.directory.specs.declared.Participant.{Participant}
+use Rattle.seat.specs.declared.calls.Wish.{Wish}
 use Rattle.centre.specs.declared.Answer.{Answer}
+use Rattle.centre.specs.declared.Ticket.{Ticket}
 use Rattle.centre.specs.Answers.{Told, told}
+use Rattle.centre.specs.Calls.{openTold, openAfter, setTold, setAfter, readTold}
+use Rattle.centre.specs.Submit.{submitTold, submitAfter, submitSlip}
 use Rattle.centre.proofs.Told.{told-one}
 use Rattle.centre.proofs.calls.lay_out.Kinds as lay-out-kinds
 use Rattle.centre.proofs.calls.lay_out.Reads as lay-out-reads
@@ -78,3 +83,27 @@ write-slip κs a x y e f = by-told-and-left x y
 
 pub read-slip : Settled _ read-slip-kinds.ps read-slip-kinds.r read-slip-reads.Post
 read-slip κs a x y e f = by-told x y
+
+-- of the calls over a lent slice of records, over the definitions that their contracts cite
+pub open-seat : (dir : List Participant) (seat : ℕ) (sums room : List ℕ) (x y : Answer) (u v : List ℕ)
+    → (told x ≡ openTold dir seat sums room) × (u ≡ openAfter dir seat sums room)
+    → (told y ≡ openTold dir seat sums room) × (v ≡ openAfter dir seat sums room) → (x ≡ y) × (u ≡ v)
+open-seat dir seat sums room x y u v = by-told-and-left x y
+
+pub set-account : (dir : List Participant) (ticket : Ticket) (owner number : ℕ) (wish : Wish) (room : List ℕ) (x y : Answer) (u v : List ℕ)
+    → (told x ≡ setTold dir ticket owner number wish room) × (u ≡ setAfter dir ticket owner number wish room)
+    → (told y ≡ setTold dir ticket owner number wish room) × (v ≡ setAfter dir ticket owner number wish room) → (x ≡ y) × (u ≡ v)
+set-account dir ticket owner number wish room x y u v = by-told-and-left x y
+
+pub read-account : (dir : List Participant) (ticket : Ticket) (owner number : ℕ) (room : List ℕ) (x y : Answer)
+    → told x ≡ readTold dir ticket owner number room → told y ≡ readTold dir ticket owner number room → x ≡ y
+read-account dir ticket owner number room x y = by-told x y
+
+pub submit-sheet : (dir : List Participant) (ticket : Ticket) (sender today : ℕ) (sheet slip room : List ℕ) (x y : Answer) (u v w z : List ℕ)
+    → (told x ≡ submitTold dir ticket sender today sheet slip room)
+    × ((u ≡ submitAfter dir ticket sender today sheet slip room) × (w ≡ submitSlip dir ticket sender today sheet slip room))
+    → (told y ≡ submitTold dir ticket sender today sheet slip room)
+    × ((v ≡ submitAfter dir ticket sender today sheet slip room) × (z ≡ submitSlip dir ticket sender today sheet slip room))
+    → (x ≡ y) × ((u ≡ v) × (w ≡ z))
+submit-sheet dir ticket sender today sheet slip room x y u v w z p q =
+    (by-told x y (p .0) (q .0), (by-equation (p .1 .0) (q .1 .0), by-equation (p .1 .1) (q .1 .1)))
