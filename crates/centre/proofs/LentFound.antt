@@ -16,7 +16,7 @@ use Rattle.judge.proofs.Places.{found-fits}
 use Rattle.seat.specs.Calls.{placeFits}
 use Rattle.seat.specs.declared.calls.Wish.{Wish}
 use Rattle.centre.specs.declared.Ticket.{Ticket}
-use Rattle.centre.specs.Calls.{setBy, setLeft, setTold, setAfter}
+use Rattle.centre.specs.Calls.{readBy, readTold, setBy, setLeft, setTold, setAfter}
 
 -- what was gathered is fit where the directory is
 pub fit-lent : (dir : List Participant) (g : Gathered) (fit : Bool) → g ≡ gathered dir → fit ≡ fitGathered g → fit ≡ isFit dir
@@ -25,6 +25,13 @@ fit-lent dir g fit e f = f ∙ ap fitGathered e ∙ fits-is-fit dir
 -- the place of what is found in a fit directory fits
 pub place-lent : (dir : List Participant) (code : ℕ) (fit : Bool) (f : Found) → fit ≡ isFit dir → f ≡ found dir code → fit ≡ true → placeFits f ≡ true
 place-lent dir code fit f e s t = ap placeFits s ∙ found-fits dir code (fit-few dir (sym e ∙ t))
+
+-- read
+pub read-told-lent : (ticket : Ticket) (owner number : ℕ) (room : List ℕ) (dir : List Participant) (fit : Bool) (f : Found) → fit ≡ isFit dir → f ≡ found dir owner
+    → readBy fit f ticket number room ≡ readTold dir ticket owner number room
+unfolding readTold
+read-told-lent ticket owner number room dir fit f e s =
+    ap (λ (b : Bool). readBy b f ticket number room) e ∙ ap (λ (h : Found). readBy (isFit dir) h ticket number room) s
 
 -- set
 module _ (ticket : Ticket) (owner number : ℕ) (wish : Wish) (room : List ℕ) (dir : List Participant) (fit : Bool) (f : Found) where
