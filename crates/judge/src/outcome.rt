@@ -3,7 +3,7 @@ use crate::case::Case;
 use crate::repeats::asked_after;
 use crate::values::or_zero;
 use journal::Earlier;
-use layout::rows::Settings;
+use journal::no_settings;
 use layout::rows::Step;
 use slip::Status;
 use slip::kind_number;
@@ -15,7 +15,6 @@ ghost use Prim.Native.Nat.{_≤_};
 ghost use lib.ListN.{length};
 ghost use Rattle.slip.specs.Meaning.{steps};
 ghost use Rattle.layout.specs.Seat.{seatLong, headOf};
-ghost use Rattle.journal.specs.Steps.{noSettings};
 ghost use Rattle.judge.specs.Rows.{askedAfter};
 ghost use Rattle.judge.specs.Verdict.{transferred, toldOf, answered, endOf, carried, stepMade};
 
@@ -92,17 +91,6 @@ fn is_carried(kind: Kind, o: Outcome) -> bool
         Kind::Pacs008 => o.status == 1,
         Kind::Camt050 => o.status == 1,
         Kind::Pacs028 => false,
-    }
-}
-
-fn no_settings() -> Settings
-    ensures { λ r. ⌜ r ≡ noSettings ⌝ }
-{
-    Settings {
-        out: 0,
-        into: 0,
-        ltk: 0,
-        lpo: 0,
     }
 }
 
