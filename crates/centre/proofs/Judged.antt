@@ -61,7 +61,7 @@ told-done : (c : Case) (s : List ℕ) → notTaken (verdict c s) ≡ false → j
 unfolding judgedTold told
 told-done c s e = rw e
 
-done-refused : (check : ℕ) → isDone (refusedWith 12 check) ≡ false
+pub done-refused : (check : ℕ) → isDone (refusedWith 12 check) ≡ false
 unfolding isDone
 done-refused check = refl
 

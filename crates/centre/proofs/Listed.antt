@@ -1,5 +1,4 @@
--- A fit directory as it was gathered: it has at most 16 records, it is the list of these, and what is found in it stands at a place that a seat
--- has.
+-- A fit directory as it was gathered: it is the list of its records, and what is found in it stands at a place that a seat has.
 -- Assumes nothing.
 use mathlib.Core.Path.{_≡_, refl, sym, ap, _∙_}
 use mathlib.Core.Bool.{Bool, true, false, false≢true}
@@ -18,17 +17,6 @@ use Rattle.directory.proofs.Finds.{fit-few}
 use Rattle.directory.proofs.Gathers.{directory-fit, directory-records}
 use Rattle.seat.specs.Calls.{placeFits}
 use Rattle.judge.proofs.Places.{found-fits}
-
-too-many : (g : Gathered) → leb (g .count) 16 ≡ false → fitGathered g ≡ false
-unfolding fitGathered
-too-many g e = rw (e, and-false (leb 1 (g .count)) false refl)
-
-pub listed-few : (g : Gathered) → fitGathered g ≡ true → g .count ≤ 16
-listed-few g fit = by-count (leb (g .count) 16) refl
-  where
-    by-count : (few : Bool) → leb (g .count) 16 ≡ few → g .count ≤ 16
-    by-count true e = leb-true (g .count) 16 e
-    by-count false e = absurd (false≢true (sym (too-many g e) ∙ fit))
 
 module _ (g : Gathered) (sixteen : length (g .records) ≡ 16) where
   pub listed-unfit : fitGathered g ≡ false → isFit (directoryIn g) ≡ false

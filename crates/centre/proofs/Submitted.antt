@@ -31,6 +31,7 @@ use Rattle.seat.proofs.Rooms.{room-long, room-seat}
 use Rattle.judge.specs.declared.case.Case.{Case}
 use Rattle.judge.specs.Case.{Arises, caseOf}
 use Rattle.judge.specs.Verdict.{outcome, stepMade}
+use Rattle.judge.proofs.Verdicts.{or-neither}
 use Rattle.centre.specs.declared.Answer.{Answer}
 use Rattle.centre.specs.declared.Answer.the-variants.{RoomUnfit, DirectoryUnfit, NoTicket, BadNumber, IllFormed, BadField, JournalFull, NoSlip}
 use Rattle.centre.specs.declared.Ticket.{Ticket}
@@ -53,15 +54,10 @@ module _ (ticket : Ticket) (room : List ℕ) where
   seat-there h s e r f = f ∙ ap (noTicket (ticket .opening)) e ∙ seat-asked h
 
   -- a good ticket is for a seat, which is open with its number
-  seat-by : (t u : Bool) → (t || u) ≡ false → (t ≡ false) × (u ≡ false)
-  seat-by false false e = (refl, refl)
-  seat-by false true e = absurd (false≢true (sym e))
-  seat-by true u e = absurd (false≢true (sym e))
-
   good-ticket : ticketBad ticket room ≡ false
       → (leb seats (ticket .seat) ≡ false) × (noTicket (ticket .opening) (seatOf room (ticket .seat)) ≡ false)
   unfolding ticketBad noSeat
-  good-ticket e = seat-by (leb seats (ticket .seat)) (noTicket (ticket .opening) (seatOf room (ticket .seat))) e
+  good-ticket e = or-neither (leb seats (ticket .seat)) (noTicket (ticket .opening) (seatOf room (ticket .seat))) e
 
   pub ticket-seat : ticketBad ticket room ≡ false → ticket .seat < seats
   ticket-seat e = leb-false seats (ticket .seat) (good-ticket e .0)

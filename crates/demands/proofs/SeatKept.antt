@@ -15,7 +15,7 @@ use Rattle.seat.specs.Fit.{closedSeat, openSeat, seatFits}
 use Rattle.seat.specs.Calls.{openAnswer, openAfter, closeAnswer, closeAfter, backAnswer, backAfter}
 use Rattle.seat.proofs.Answered.{behind-done as seat-done, good-ticket}
 use Rattle.seat.proofs.Kept.{open-keeps, close-keeps, record-keeps, back-keeps}
-use Rattle.seat.proofs.Undone.{record-undone}
+use Rattle.seat.proofs.Undone.{open-is, close-zeros, record-undone}
 use Rattle.centre.specs.declared.Ticket.{Ticket}
 use Rattle.centre.specs.Answers.{isDone, behind}
 use Rattle.centre.proofs.First.{behind-done, behind-refused}
@@ -24,14 +24,6 @@ use Rattle.demands.proofs.InSeat.{actTells, actMakes, tells, makes, lea
 use Rattle.demands.proofs.DoneCalls.{OneStep, open-is-done, close-is-done, back-is-done, set-steps, submit-steps}
 
 -- what the seat's own calls leave where they are done
-opened-is : (dir : List Participant) (sums s : List ℕ) → openAnswer dir sums s ≡ Done → openAfter dir sums s ≡ openSeat (suc (headOf s .opening)) sums
-unfolding openAfter
-opened-is dir sums s d = seat-done (openAnswer dir sums s) (openSeat (suc (headOf s .opening)) sums) s d
-
-closed-is : (ticket : ℕ) (s : List ℕ) → closeAnswer ticket s ≡ Done → closeAfter ticket s ≡ closedSeat (headOf s .opening)
-unfolding closeAfter
-closed-is ticket s d = seat-done (closeAnswer ticket s) (closedSeat (headOf s .opening)) s d
-
 backed-is : (ticket : ℕ) (s : List ℕ) → backAnswer ticket s ≡ Done → backAfter ticket s ≡ backed s
 unfolding backAfter
 backed-is ticket s d = seat-done (backAnswer ticket s) (backed s) s d
@@ -50,7 +42,7 @@ module _ (dir : List Participant) (s : List ℕ) (fit : seatFits s ≡ true) whe
   act-keeps : (ticket : Ticket) (act : Act) → isDone (actTells dir ticket act s) ≡ true → seatFits (actMakes dir act s) ≡ true
   unfolding actMakes
   act-keeps ticket close e =
-      ap seatFits (sym (closed-is (ticket .opening) s (close-is-done dir s ticket e))) ∙ close-keeps (ticket .opening) s fit
+      ap seatFits (sym (close-zeros (ticket .opening) s (close-is-done dir s ticket e))) ∙ close-keeps (ticket .opening) s fit
   act-keeps ticket (set owner number wish) e =
       step-keeps (actMakes dir (set owner number wish) s) s fit (set-steps dir s ticket owner number wish fit e)
   act-keeps ticket (submit sender today sheet slip) e =
@@ -63,7 +55,7 @@ module _ (dir : List Participant) (s : List ℕ) (fit : seatFits s ≡ true) whe
   unfolding tells makes
   done-keeps (opening seat sums) e =
       let is = open-is-done dir s seat sums e in
-      ap seatFits (sym (opened-is dir sums s (is .1))) ∙ open-keeps dir sums s (fit-few dir (is .0)) fit
+      ap seatFits (sym (open-is dir sums s (is .1))) ∙ open-keeps dir sums s (fit-few dir (is .0)) fit
   done-keeps (under ticket act) e = act-keeps ticket act e
   done-keeps (writing slip buffer) e = fit
   done-keeps (reading bytes) e = fit

@@ -40,7 +40,7 @@ use Rattle.centre.specs.declared.Ticket.{Ticket}
 use Rattle.centre.specs.Answers.{done, refusedWith, isDone}
 use Rattle.centre.specs.Submit.{verdictOn, notTaken, stepOn, slipOf, judgedTold, submitTold, submitAfter, submitSlip}
 use Rattle.centre.proofs.First.{behind-done, behind-refused}
-use Rattle.centre.proofs.Judged.{not-one, not-two}
+use Rattle.centre.proofs.Judged.{done-refused, not-one, not-two}
 use Rattle.demands.specs.Messages.{Recorded, slipOf as slipBehind}
 use Rattle.demands.proofs.Heard.{Facts, seat-there, seat-own}
 
@@ -48,10 +48,6 @@ use Rattle.demands.proofs.Heard.{Facts, seat-there, seat-own}
 done-done : isDone (done []) ≡ true
 unfolding isDone
 done-done = refl
-
-refused-not : (check : ℕ) → isDone (refusedWith 12 check) ≡ false
-unfolding isDone
-refused-not check = refl
 
 module _ (dir : List Participant) (ticket : Ticket) (sender today : ℕ) (sheet slip room : List ℕ)
     (f : Facts dir ticket sender today sheet slip room) (m : Message) (good : receivedOf sheet .answer ≡ Good m) where
@@ -110,7 +106,7 @@ module _ (dir : List Participant) (ticket : Ticket) (sender today : ℕ) (sheet 
     told-refused = told-judged ∙ rw refuses
 
     over : isDone (submitTold dir ticket sender today sheet slip room) ≡ false
-    over = ap isDone told-refused ∙ refused-not (verdict case place)
+    over = ap isDone told-refused ∙ done-refused (verdict case place)
 
     pub not-taken : (submitTold dir ticket sender today sheet slip room ≡ refusedWith 12 (verdict case place))
         × (submitAfter dir ticket sender today sheet slip room ≡ room)

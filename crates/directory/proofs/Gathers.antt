@@ -103,7 +103,7 @@ unfit : (g : Gathered) → leb (g .count) 16 ≡ false → fitGathered g ≡ fal
 unfolding fitGathered
 unfit g e = rw (e, and-false (leb 1 (g .count)) false refl)
 
-few-gathered : (g : Gathered) → fitGathered g ≡ true → g .count ≤ 16
+pub few-gathered : (g : Gathered) → fitGathered g ≡ true → g .count ≤ 16
 few-gathered g fit = by-count (leb (g .count) 16) refl
   where
     by-count : (few : Bool) → leb (g .count) 16 ≡ few → g .count ≤ 16

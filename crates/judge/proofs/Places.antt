@@ -22,6 +22,7 @@ use Rattle.directory.specs.declared.Found.the-variants.{At, Missing}
 use Rattle.directory.specs.Directory.{codeMost, names, ascending, found, foundAs, accountIn, ownerUsed}
 use Rattle.directory.specs.Gathering.{recordsIn, fitGathered}
 use Rattle.directory.proofs.Finds.{found-code}
+use Rattle.directory.proofs.Gathers.{few-gathered}
 use Rattle.message.specs.declared.Message.{Message}
 use Rattle.seat.specs.Calls.{placeFits}
 use Rattle.judge.specs.Case.{debitOwner, creditOwner}
@@ -53,17 +54,6 @@ credit-owner-fits dir m Pacs008 few = owner-fits dir (m .instructed) few
 credit-owner-fits dir m Camt050 few = found-fits dir (m .credit .code) few
 credit-owner-fits dir m Pacs028 few = refl
 
--- what was gathered of a fit directory: at most 16 records were counted, and no more are there than were counted
-counted-few : (g : Gathered) → fitGathered g ≡ true → g .count ≤ 16
-unfolding fitGathered
-counted-few g fit =
-    leb-true (g .count) 16
-    (and-right (leb 1 (g .count)) (leb (g .count) 16)
-    (and-left (leb 1 (g .count) && leb (g .count) 16) (every (λ (p : Participant). leb (p .code) codeMost) (recordsIn g))
-    (and-left (leb 1 (g .count) && leb (g .count) 16 && every (λ (p : Participant). leb (p .code) codeMost) (recordsIn g)) (ascending (recordsIn g))
-    (and-left
-    (leb 1 (g .count) && leb (g .count) 16 && every (λ (p : Participant). leb (p .code) codeMost) (recordsIn g) && ascending (recordsIn g))
-    (every (λ (p : Participant). names (recordsIn g) (p .kind)) (recordsIn g)) fit))))
-
+-- of what was gathered no more is there than was counted
 pub records-few : (g : Gathered) → fitGathered g ≡ true → length (recordsIn g) ≤ 16
-records-few g fit = rw (length-take (g .count) (g .records)) (omega (arith, counted-few g fit))
+records-few g fit = rw (length-take (g .count) (g .records)) (omega (arith, few-gathered g fit))

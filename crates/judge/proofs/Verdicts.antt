@@ -23,7 +23,7 @@ zero-nowhere Camt050 = refl
 zero-nowhere Pacs028 = refl
 
 -- both are false where their disjunction is
-or-neither : (t u : Bool) → (t || u) ≡ false → (t ≡ false) × (u ≡ false)
+pub or-neither : (t u : Bool) → (t || u) ≡ false → (t ≡ false) × (u ≡ false)
 or-neither true u e = absurd (false≢true (sym e))
 or-neither false u e = (refl, e)
 

@@ -48,6 +48,7 @@ use Rattle.seat.specs.Calls.{
 use Rattle.seat.proofs.Opened.{opened-head}
 use Rattle.seat.proofs.Forward.{open-fits, made, fit-more, fit-back, fit-opened, fit-closed}
 use Rattle.seat.proofs.Reached.{fit-settings}
+use Rattle.seat.proofs.Named.{account-low, set-step-fits}
 use Rattle.seat.proofs.Answered.{behind-keeps, ticket-good, open-done, set-done, back-done}
 
 -- what was opened and worked is as long as a seat, and open
@@ -155,22 +156,7 @@ pub record-keeps : (x : Step) (s : List ℕ) → seatFits s ≡ true → headOf 
     → seatFits (stepped x s) ≡ true
 record-keeps x s e o b p = open-seat-fits (stepped x s) (fit-more x s (fit-long s e) (fit-open s e o) b p)
 
--- the account that a set names
-account-within : (owner : Found) (number : ℕ) → placeFits owner ≡ true → accountNamed owner number ≡ true → accountNumber owner number < accounts
-unfolding accountNamed
-account-within (At place p) number e n =
-    let b : place < places = ltb-true place places e in
-    or-cases (eqb number 1) (eqb number 2) (and-right (isOwner (p .kind)) (eqb number 1 || eqb number 2) n)
-    (λ (q : eqb number 1 ≡ true). let here : number ≡ 1 = eqb-true number 1 q in omega arith)
-    (λ (q : eqb number 2 ≡ true). let here : number ≡ 2 = eqb-true number 2 q in omega arith)
-account-within Missing number e n = absurd (false≢true n)
-
 -- a set of an account's settings of the moment is possible
-set-step-fits : (i : ℕ) (old given : Settings) → i < accounts → settingsFit old ≡ true → settingsFit given ≡ true
-    → stepFits (setStep i old given) ≡ true
-unfolding stepFits setFits noMessage noMovement sameIdentifier
-set-step-fits i old given b e f = rw (lt-ltb i accounts b, e, f)
-
 set-covered : (i : ℕ) (given : Settings) (s : List ℕ) → covered (setStep i (accountOf s i .settings) given) s ≡ true
 unfolding covered
 set-covered i given s = settings-same (accountOf s i .settings)
@@ -196,7 +182,7 @@ module _ (opening : ℕ) (owner : Found) (number : ℕ) (given : Settings) (s : 
   pub set-can : possible (setStep (accountNumber owner number) (accountOf s (accountNumber owner number) .settings) given) s ≡ true
   set-can =
       set-possible (accountNumber owner number) given s (fit-long s e) (fit-open s e set-open)
-      (account-within owner number p (set-done opening owner number given s d .1))
+      (account-low owner number (set-done opening owner number given s d .1) p)
       (set-done opening owner number given s d .2)
 
 -- set

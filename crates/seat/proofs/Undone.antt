@@ -74,7 +74,7 @@ unfolding closeAfter
 close-zeros opening s d = behind-done (closeAnswer opening s) (closedSeat (headOf s .opening)) s d
 
 -- an open
-open-is : (dir : List Participant) (sums s : List ℕ) → openAnswer dir sums s ≡ Done
+pub open-is : (dir : List Participant) (sums s : List ℕ) → openAnswer dir sums s ≡ Done
     → openAfter dir sums s ≡ openSeat (suc (headOf s .opening)) sums
 unfolding openAfter
 open-is dir sums s d = behind-done (openAnswer dir sums s) (openSeat (suc (headOf s .opening)) sums) s d

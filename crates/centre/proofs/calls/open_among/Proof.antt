@@ -3,7 +3,7 @@ use mathlib.Core.Path.{sym, _∙_}
 use lib.ListN.{length-map}
 use borrow.Author.Tests.{not-true, not-false}
 use Rattle.centre.proofs.SeatLent.{seat-ends, lent-long, lent-fits, back-ends}
-use Rattle.centre.proofs.Listed.{listed-few}
+use Rattle.directory.proofs.Gathers.{few-gathered}
 use Rattle.centre.proofs.Refusals.{open-room-unfit, open-unlisted, open-no-seat, open-end}
 use borrow.Author.Needs.{needs}
 use Rattle.centre.proofs.calls.open_among.Statement.{statement}
@@ -52,7 +52,7 @@ part-open-seat-end : tie.Need-part-open-seat-end
 part-open-seat-end c = seat-ends (c .before .before .before .before .before .before .before .before .args .room .now) (sym (c .before .before .before .before .room-fits .ensures) ∙ not-false _ (c .before .before .before .if1 .left)) (c .before .before .before .before .before .before .before .before .args .seat) (c .if3 .left)
 
 open-seat-requires : tie.Need-open-seat-requires
-open-seat-requires c κs = (lent-long (c .before .before .before .before .before .before .before .before .before .args .room .now) (sym (c .before .before .before .before .before .room-fits .ensures) ∙ not-false _ (c .before .before .before .before .if1 .left)) (c .before .before .before .before .before .before .before .before .before .args .seat) (c .before .if3 .left), lent-fits (c .before .before .before .before .before .before .before .before .before .args .room .now) (sym (c .before .before .before .before .before .room-fits .ensures) ∙ not-false _ (c .before .before .before .before .if1 .left)) (c .before .before .before .before .before .before .before .before .before .args .seat) (c .before .if3 .left), listed-few (c .before .before .before .before .before .before .before .before .before .args .g) (sym (c .before .before .before .fits2 .ensures) ∙ not-false _ (c .before .before .if2 .left)))
+open-seat-requires c κs = (lent-long (c .before .before .before .before .before .before .before .before .before .args .room .now) (sym (c .before .before .before .before .before .room-fits .ensures) ∙ not-false _ (c .before .before .before .before .if1 .left)) (c .before .before .before .before .before .before .before .before .before .args .seat) (c .before .if3 .left), lent-fits (c .before .before .before .before .before .before .before .before .before .args .room .now) (sym (c .before .before .before .before .before .room-fits .ensures) ∙ not-false _ (c .before .before .before .before .if1 .left)) (c .before .before .before .before .before .before .before .before .before .args .seat) (c .before .if3 .left), few-gathered (c .before .before .before .before .before .before .before .before .before .args .g) (sym (c .before .before .before .fits2 .ensures) ∙ not-false _ (c .before .before .if2 .left)))
 
 mul-head : tie.Need-mul-head
 mul-head c = search needs
