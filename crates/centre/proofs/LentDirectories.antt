@@ -46,11 +46,11 @@ unfit-behind room t made came e = behind-refused t made came (ap isDone e ∙ un
 
 -- open
 module _ (seat : ℕ) (sums room : List ℕ) where
-  open-unfit : (dir : List Participant) → isFit dir ≡ false → openTold dir seat sums room ≡ unfitTold room
+  pub open-unfit : (dir : List Participant) → isFit dir ≡ false → openTold dir seat sums room ≡ unfitTold room
   unfolding openTold
   open-unfit dir e = rw e
 
-  open-unfit-room : (dir : List Participant) → isFit dir ≡ false → openAfter dir seat sums room ≡ room
+  pub open-unfit-room : (dir : List Participant) → isFit dir ≡ false → openAfter dir seat sums room ≡ room
   unfolding openAfter
   open-unfit-room dir e = unfit-behind room (openTold dir seat sums room) _ room (open-unfit dir e)
 
@@ -63,11 +63,11 @@ module _ (seat : ℕ) (sums room : List ℕ) where
 
 -- set
 module _ (ticket : Ticket) (owner number : ℕ) (wish : Wish) (room : List ℕ) where
-  set-unfit : (dir : List Participant) → isFit dir ≡ false → setTold dir ticket owner number wish room ≡ unfitTold room
+  pub set-unfit : (dir : List Participant) → isFit dir ≡ false → setTold dir ticket owner number wish room ≡ unfitTold room
   unfolding setTold
   set-unfit dir e = rw e
 
-  set-unfit-room : (dir : List Participant) → isFit dir ≡ false → setAfter dir ticket owner number wish room ≡ room
+  pub set-unfit-room : (dir : List Participant) → isFit dir ≡ false → setAfter dir ticket owner number wish room ≡ room
   unfolding setTold setAfter
   set-unfit-room dir e = unfit-behind room (setTold dir ticket owner number wish room) _ room (set-unfit dir e)
 
@@ -81,7 +81,7 @@ module _ (ticket : Ticket) (owner number : ℕ) (wish : Wish) (room : List ℕ) 
 
 -- read
 module _ (ticket : Ticket) (owner number : ℕ) (room : List ℕ) where
-  read-unfit : (dir : List Participant) → isFit dir ≡ false → readTold dir ticket owner number room ≡ unfitTold room
+  pub read-unfit : (dir : List Participant) → isFit dir ≡ false → readTold dir ticket owner number room ≡ unfitTold room
   unfolding readTold
   read-unfit dir e = rw e
 
@@ -91,15 +91,15 @@ module _ (ticket : Ticket) (owner number : ℕ) (room : List ℕ) where
 
 -- submit
 module _ (ticket : Ticket) (sender today : ℕ) (sheet slip room : List ℕ) where
-  submit-unfit : (dir : List Participant) → isFit dir ≡ false → submitTold dir ticket sender today sheet slip room ≡ unfitTold room
+  pub submit-unfit : (dir : List Participant) → isFit dir ≡ false → submitTold dir ticket sender today sheet slip room ≡ unfitTold room
   unfolding submitTold
   submit-unfit dir e = rw e
 
-  submit-unfit-room : (dir : List Participant) → isFit dir ≡ false → submitAfter dir ticket sender today sheet slip room ≡ room
+  pub submit-unfit-room : (dir : List Participant) → isFit dir ≡ false → submitAfter dir ticket sender today sheet slip room ≡ room
   unfolding submitAfter
   submit-unfit-room dir e = unfit-behind room (submitTold dir ticket sender today sheet slip room) _ room (submit-unfit dir e)
 
-  submit-unfit-slip : (dir : List Participant) → isFit dir ≡ false → submitSlip dir ticket sender today sheet slip room ≡ slip
+  pub submit-unfit-slip : (dir : List Participant) → isFit dir ≡ false → submitSlip dir ticket sender today sheet slip room ≡ slip
   unfolding submitSlip
   submit-unfit-slip dir e = unfit-behind room (submitTold dir ticket sender today sheet slip room) _ slip (submit-unfit dir e)
 

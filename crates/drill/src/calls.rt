@@ -1,4 +1,4 @@
-// The nine calls, with the numbers of a line.
+// The nine calls, with the numbers of a line. The script's directory is lent to those that need one, through `lender`.
 use crate::show::put_buffer;
 use crate::show::tell;
 use crate::words::Numbers;
@@ -7,15 +7,15 @@ use crate::words::words_end;
 use centre::Ticket;
 use centre::close_seat;
 use centre::lay_out;
-use centre::open_among;
-use centre::read_among;
 use centre::read_slip;
-use centre::set_among;
-use centre::submit_among;
 use centre::take_back;
 use centre::write_slip;
 use check::same;
 use directory::Gathered;
+use lender::open_with;
+use lender::read_with;
+use lender::set_with;
+use lender::submit_with;
 use seat::Limit;
 use seat::Wish;
 use shape::byte::is_digit;
@@ -56,7 +56,7 @@ fn sums(values: &[u64], count: usize) -> &[u64] {
 
 fn open(room: &mut [u64], g: Gathered, n: Numbers) {
     let values = n.values;
-    tell(open_among(room, g, values[0], sums(&values, n.count)), 1);
+    tell(open_with(room, g, values[0], sums(&values, n.count)), 1);
 }
 
 // The LPO that ends a line: a number, or `-` for none.
@@ -77,14 +77,14 @@ fn set(line: &[u8], room: &mut [u64], g: Gathered, n: Numbers) {
         ltk: values[6],
         lpo: limit(line, values[7]),
     };
-    tell(set_among(room, g, ticket(n), values[2], values[3], wish), 0);
+    tell(set_with(room, g, ticket(n), values[2], values[3], wish), 0);
 }
 
 // The sheet is all that stands behind the sixth word.
 fn submit_in(line: &[u8], room: &mut [u64], g: Gathered, n: Numbers, buffer: &mut [u8]) {
     let values = n.values;
     let sheet = part(line, words_end(line, 5) + 1, line.len());
-    let answer = submit_among(room, g, ticket(n), values[2], values[3], sheet, buffer);
+    let answer = submit_with(room, g, ticket(n), values[2], values[3], sheet, buffer);
     tell(answer, 0);
     put_buffer(buffer);
 }
@@ -98,7 +98,7 @@ fn submit(line: &[u8], room: &mut [u64], g: Gathered, n: Numbers) {
 
 fn read(room: &[u64], g: Gathered, n: Numbers) {
     let values = n.values;
-    tell(read_among(room, g, ticket(n), values[2], values[3]), 7);
+    tell(read_with(room, g, ticket(n), values[2], values[3]), 7);
 }
 
 // The calls on a room.

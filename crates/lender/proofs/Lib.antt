@@ -1,0 +1,4 @@
+pub mod Counting
+pub mod Directories
+pub mod Lending
+pub mod Settled
