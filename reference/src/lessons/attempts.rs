@@ -1,0 +1,212 @@
+//! Messages for a lesson that pass every check, as far as the directory and the room as it stands allow.
+
+use super::drafts::{self, uetr_field, Draft, CREATED, INSTRUCTING, MSG_ID, REFERENCE};
+use super::Maker;
+use crate::directory::{self, Kind, Record};
+use crate::room::{self, LIQUIDITY, PAYMENT, REQUEST};
+use crate::shapes::{self, AMOUNT_MOST, CODE_MOST};
+
+/// A submit call that is yet to be made.
+#[derive(Clone)]
+pub struct Attempt {
+    pub seat: u64,
+    pub opening: u64,
+    pub sender: u64,
+    pub date: u64,
+    pub long: u64,
+    pub draft: Draft,
+}
+
+/// What may leave an account: nothing where it is blocked or its limit is used up.
+fn payable(account: &[u64]) -> u64 {
+    let available = account[room::BALANCE].saturating_sub(account[room::LTK]).min(AMOUNT_MOST);
+    match (account[room::OUT], account[room::LPO]) {
+        (1, _) | (_, 1) => 0,
+        (_, 0) => available,
+        (_, lpo) => available.min((lpo - 1).saturating_sub(account[room::TURNOVER])),
+    }
+}
+
+fn is_bank(record: &Record) -> bool {
+    matches!(record.kind, Kind::Owner | Kind::Direct(_))
+}
+
+pub fn member(code: u64) -> String {
+    format!("{:06}", code)
+}
+
+impl Maker {
+    /// A listed code of some sort, where there is one.
+    pub(super) fn code(&mut self, sort: impl Fn(&Record) -> bool) -> Option<u64> {
+        let codes: Vec<u64> =
+            self.player.directory.iter().filter(|record| sort(record)).map(|record| record.code).collect();
+        if codes.is_empty() {
+            None
+        } else {
+            Some(self.dice.pick(&codes))
+        }
+    }
+
+    pub(super) fn unlisted(&mut self) -> u64 {
+        loop {
+            let code = self.dice.below(CODE_MOST + 1);
+            if self.player.directory.iter().all(|record| record.code != code) {
+                return code;
+            }
+        }
+    }
+
+    /// Any code, listed or not.
+    pub(super) fn any_code(&mut self) -> u64 {
+        let listed = self.code(|_| true);
+        match listed {
+            Some(code) if self.dice.chance(85) => code,
+            _ => self.unlisted(),
+        }
+    }
+
+    pub(super) fn account(&self, seat: u64, number: usize) -> &[u64] {
+        room::account(room::seat(self.player.room(), seat as usize), number)
+    }
+
+    pub(super) fn sum(&mut self, most: u64) -> u64 {
+        if most == 0 {
+            return self.dice.between(1, 100);
+        }
+        match self.dice.below(10) {
+            0 | 1 => most,
+            2 => 1,
+            3 => self.dice.between(1, most),
+            _ => self.dice.between(1, most / 4 + 1).min(most),
+        }
+    }
+
+    /// The day of the call or, now and then, the day before it.
+    pub(super) fn created(&mut self, date: u64) -> String {
+        let before = shapes::day_before(date);
+        let day = if self.dice.chance(25) && shapes::is_date(before) { before } else { date };
+        drafts::time(&mut self.dice, day)
+    }
+
+    /// A message that passes every check as far as the directory and the money allow.
+    pub(super) fn valid(&mut self, seat: u64) -> Attempt {
+        let kind = [PAYMENT, LIQUIDITY, REQUEST][self.dice.weighed(&[45, 40, 15])];
+        self.valid_of(seat, kind)
+    }
+
+    pub(super) fn valid_of(&mut self, seat: u64, kind: u64) -> Attempt {
+        let opening = room::seat(self.player.room(), seat as usize)[room::OPENING];
+        let (sender, draft) = match kind {
+            PAYMENT => self.payment(seat),
+            LIQUIDITY => self.liquidity(seat),
+            _ => self.request(seat),
+        };
+        let long = [5, self.dice.between(5, 8), self.dice.below(5)][self.dice.weighed(&[80, 18, 2])];
+        Attempt { seat, opening, sender, date: self.date, long, draft }
+    }
+
+    pub(super) fn liquidity(&mut self, seat: u64) -> (u64, Draft) {
+        let mut sender = 0;
+        let mut digit = 1;
+        let mut most = 0;
+        for _ in 0..6 {
+            sender = self.code(|record| record.instant && record.kind == Kind::Owner).unwrap_or(300_001);
+            digit = self.dice.between(1, 2);
+            let place = directory::owner_place(&self.player.directory, sender).unwrap_or(0);
+            most = payable(self.account(seat, room::account_number(place, digit)));
+            if most > 0 {
+                break;
+            }
+        }
+        let amount = self.sum(most);
+        let texts = [
+            drafts::identifier(&mut self.dice, sender, self.date),
+            self.created(self.date),
+            drafts::uetr(&mut self.dice),
+            drafts::amount(amount),
+            drafts::account(digit, sender, "UAH"),
+            drafts::account(3 - digit, sender, "UAH"),
+        ];
+        (sender, Draft::new(LIQUIDITY, &texts))
+    }
+
+    /// An agent of a bank: the bank itself, its indirect branch, or a provider that it serves.
+    pub(super) fn agent(&mut self, bank: u64, must_be_instant: bool) -> (&'static str, u64) {
+        let suits = |record: &Record| record.instant || !must_be_instant;
+        let roll = self.dice.below(3);
+        let branch = self.code(|record| record.kind == Kind::Indirect(bank) && suits(record));
+        let provider = self.code(|record| record.kind == Kind::Provider(bank) && suits(record));
+        match (roll, branch, provider) {
+            (0, Some(code), _) => ("SEP", code),
+            (1, _, Some(code)) => ("ASP", code),
+            _ => ("SEP", bank),
+        }
+    }
+
+    pub(super) fn payment(&mut self, seat: u64) -> (u64, Draft) {
+        let mut sender = 0;
+        let mut most = 0;
+        for _ in 0..6 {
+            sender = self.code(|record| record.instant && is_bank(record)).unwrap_or(300_001);
+            let place = directory::using_place(&self.player.directory, sender).unwrap_or(0);
+            most = payable(self.account(seat, room::account_number(place, 2)));
+            if most > 0 {
+                break;
+            }
+        }
+        let instructed = self.code(|record| record.instant && is_bank(record)).unwrap_or(300_002);
+        let (debtor_list, debtor) = self.agent(sender, false);
+        let (creditor_list, creditor) = self.agent(instructed, true);
+        let previous = match debtor_list {
+            "ASP" if self.dice.chance(40) => member(sender),
+            "SEP" if self.dice.chance(20) => member(self.any_code()),
+            _ => String::new(),
+        };
+        let amount = self.sum(most);
+        let texts = [
+            drafts::identifier(&mut self.dice, sender, self.date),
+            self.created(self.date),
+            member(sender),
+            member(instructed),
+            drafts::reference(&mut self.dice),
+            drafts::uetr(&mut self.dice),
+            drafts::amount(amount),
+            previous,
+            debtor_list.to_string(),
+            member(debtor),
+            drafts::iban(&mut self.dice),
+            creditor_list.to_string(),
+            member(creditor),
+            drafts::iban(&mut self.dice),
+        ];
+        (sender, Draft::new(PAYMENT, &texts))
+    }
+
+    /// A request about a pacs.008 sent before: mostly one of this seat's journal, else perhaps one taken back since.
+    pub(super) fn request(&mut self, seat: u64) -> (u64, Draft) {
+        let is_near = self.dice.chance(85);
+        let journal: Vec<&[u64]> = room::journal(room::seat(self.player.room(), seat as usize)).collect();
+        let is_there = |draft: &Draft| {
+            let id = shapes::identifier(draft.text(MSG_ID).as_bytes());
+            id.map_or(false, |id| journal.iter().any(|step| step[room::STEP_ID] == id.stored))
+        };
+        let payments = self.sent.iter().map(|sent| &sent.draft).filter(|draft| draft.kind == PAYMENT);
+        let asked: Vec<Draft> = payments.filter(|draft| !is_near || is_there(draft)).cloned().collect();
+        let asked = match asked.len() {
+            0 => self.payment(seat).1,
+            count => asked[self.dice.place(count)].clone(),
+        };
+        let sender = asked.text(INSTRUCTING).parse().unwrap_or(0);
+        let texts = [
+            drafts::identifier(&mut self.dice, sender, self.date),
+            self.created(self.date),
+            member(sender),
+            asked.text(MSG_ID).to_string(),
+            self.dice.pick(&["pacs.008.001.08", "pacs.008", "pacs.0081"]).to_string(),
+            asked.text(CREATED).to_string(),
+            asked.text(uetr_field(PAYMENT)).to_string(),
+            asked.text(REFERENCE).to_string(),
+        ];
+        (sender, Draft::new(REQUEST, &texts))
+    }
+}

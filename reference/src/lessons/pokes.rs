@@ -1,0 +1,252 @@
+//! A lesson's meddling with the room: numbers changed and mostly changed back soon, wrong lengths; and looks at it.
+
+use super::{Maker, EDGES};
+use crate::room::{
+    self, ACCOUNT_LONG, HEAD_LONG, PAYMENT, REQUEST, ROOM_LONG, SEATS, SEAT_LONG, STEPS, STEP_LONG, SUM_MOST,
+};
+use crate::shapes;
+use crate::slip::ACCC;
+
+/// Where a seat's journal begins.
+const JOURNAL: usize = SEAT_LONG - STEPS * STEP_LONG;
+
+impl Maker {
+    /// A place of the room: mostly in the head, the accounts or the used steps of an open seat.
+    fn place(&mut self) -> usize {
+        let number = self.some_seat() as usize;
+        let from = number * SEAT_LONG;
+        let steps = room::steps(room::seat(self.player.room(), number)).min(STEPS);
+        match self.dice.below(12) {
+            0 => from + self.dice.place(HEAD_LONG),
+            1 | 2 => from + HEAD_LONG + self.dice.place(room::ACCOUNTS * ACCOUNT_LONG),
+            3 => from + self.dice.place(SEAT_LONG),
+            4 => self.dice.place(ROOM_LONG),
+            5 => self.dice.place(SEATS) * SEAT_LONG + self.dice.place(HEAD_LONG),
+            6 if steps > 0 => from + JOURNAL + (steps - 1) * STEP_LONG + self.dice.place(STEP_LONG),
+            7 | 8 if steps > 0 => {
+                from + JOURNAL + self.dice.place(steps) * STEP_LONG + self.dice.place(room::STEP_ID.end)
+            }
+            _ => from + JOURNAL + self.dice.place((steps.max(1)) * STEP_LONG),
+        }
+    }
+
+    /// A number that is nearly another.
+    fn near(&mut self, number: u64) -> u64 {
+        match self.dice.below(13) {
+            0 | 1 => number.wrapping_add(1),
+            2 | 3 => number.wrapping_sub(1),
+            4 => 0,
+            5 => self.dice.pick(&EDGES),
+            6 | 7 => number ^ 1 << self.dice.below(64),
+            8 => number ^ 1 << self.dice.below(16),
+            9 => number.wrapping_add(10u64.pow(self.dice.below(13) as u32)),
+            10 | 11 => {
+                let mut bytes = number.to_be_bytes();
+                bytes[self.dice.place(8)] = self.dice.pick(&[0, 31, 32, b'&', b'<', b'>', 126, 127, 128]);
+                u64::from_be_bytes(bytes)
+            }
+            _ => self.dice.between(1, 4),
+        }
+    }
+
+    fn put(&mut self, place: usize, number: u64) {
+        if self.player.room()[place] != number {
+            self.line(&format!("poke {} {}", place, number));
+        }
+    }
+
+    /// A number of the room is changed, a call or two are made, and it is mostly changed back.
+    pub(super) fn poke(&mut self) {
+        match self.dice.below(10) {
+            0 | 1 => self.poke_alike(Maker::poke_sums),
+            2 => self.poke_alike(Maker::poke_movement),
+            3 | 4 => self.poke_alike(Maker::poke_setting),
+            _ => {
+                let place = self.place();
+                let old = self.player.room()[place];
+                let other = self.near(old);
+                self.put(place, other);
+                for _ in 0..self.dice.between(1, 2) {
+                    self.any_call();
+                }
+                if self.dice.chance(92) {
+                    self.put(place, old);
+                }
+            }
+        }
+    }
+
+    /// Several numbers are changed alike, so that the journal comes out; ranges or a balance on the way may be wrong. A
+    /// room that is unfit then is mostly put right number by number.
+    fn poke_alike(&mut self, change: fn(&mut Maker, usize)) {
+        let before = self.player.room().to_vec();
+        let seat = self.some_seat() as usize;
+        change(self, seat * SEAT_LONG);
+        let is_fit = room::is_fit(self.player.room());
+        self.any_call();
+        if !is_fit && self.dice.chance(85) {
+            for (place, number) in before.iter().enumerate() {
+                self.put(place, *number);
+            }
+        }
+    }
+
+    /// The lowest balance that an account has on its way through the journal.
+    fn lowest(&self, from: usize, account: usize) -> u64 {
+        let seat = &self.player.room()[from..from + SEAT_LONG];
+        let mut balance = room::account(seat, account)[room::OPENING_SUM];
+        let mut lowest = balance;
+        for step in room::journal(seat) {
+            if step[room::STEP_DEBIT] != step[room::STEP_CREDIT] && step[room::STEP_DEBIT] == account as u64 {
+                balance = balance.wrapping_sub(step[room::STEP_AMOUNT]);
+            } else if step[room::STEP_DEBIT] != step[room::STEP_CREDIT] && step[room::STEP_CREDIT] == account as u64 {
+                balance = balance.wrapping_add(step[room::STEP_AMOUNT]);
+            }
+            lowest = lowest.min(balance);
+        }
+        lowest
+    }
+
+    /// An account's opening sum, and its balance by as much: on the way nothing may be left, or one kopeck less.
+    fn poke_sums(&mut self, from: usize) {
+        let mut account = 0;
+        for _ in 0..8 {
+            account = self.dice.place(room::ACCOUNTS.min(2 * self.player.directory.len()));
+            let values = room::account(&self.player.room()[from..from + SEAT_LONG], account);
+            if values[room::TURNOVER] > 0 && values[room::BALANCE] > self.lowest(from, account) {
+                break;
+            }
+        }
+        let at = from + HEAD_LONG + account * ACCOUNT_LONG;
+        let (opening, balance) = (self.player.room()[at], self.player.room()[at + 1]);
+        let lowest = self.lowest(from, account);
+        let most = opening.min(balance);
+        let other = match self.dice.below(6) {
+            0 => SUM_MOST + self.dice.below(2),
+            1 => opening - most,
+            2 | 3 => opening.wrapping_sub(lowest),
+            _ => opening.wrapping_sub(lowest + 1),
+        };
+        self.put(at, other);
+        self.put(at + 1, balance.wrapping_add(other).wrapping_sub(opening));
+    }
+
+    /// A step of a kind in the seat's journal, by its place in the room.
+    fn step_where(&mut self, from: usize, sort: impl Fn(&[u64]) -> bool) -> Option<usize> {
+        let seat = &self.player.room()[from..from + SEAT_LONG];
+        let places: Vec<usize> = room::journal(seat)
+            .enumerate()
+            .filter(|(_, step)| sort(step))
+            .map(|(number, _)| from + JOURNAL + number * STEP_LONG)
+            .collect();
+        if places.is_empty() {
+            None
+        } else {
+            Some(self.dice.pick(&places))
+        }
+    }
+
+    /// Adds to an account's number, or takes from it.
+    fn shift(&mut self, from: usize, account: u64, number: usize, by: u64) {
+        let at = from + HEAD_LONG + (account as usize).min(room::ACCOUNTS - 1) * ACCOUNT_LONG + number;
+        let sum = self.player.room()[at].wrapping_add(by);
+        self.put(at, sum);
+    }
+
+    /// A movement between other accounts or of another amount, with balances and turnovers to match.
+    fn poke_movement(&mut self, from: usize) {
+        let step =
+            match self.step_where(from, |step| step[room::STEP_STATUS] == ACCC && step[room::STEP_KIND] != REQUEST) {
+                Some(step) => step,
+                None => return,
+            };
+        let kind = self.player.room()[step];
+        let old = self.player.room()[step + room::STEP_DEBIT..step + room::STEP_ACCOUNT].to_vec();
+        let owners = 2 * self.player.directory.len() as u64;
+        let debit = if self.dice.chance(50) { old[0] } else { self.dice.below(owners) };
+        let credit = match self.dice.below(3) {
+            0 => debit,
+            1 if kind != PAYMENT => debit ^ 1,
+            _ => self.dice.below(owners),
+        };
+        let amount =
+            if self.dice.chance(60) { old[2] } else { self.dice.pick(&[0, 1, 9_999_999_999_999, 10_000_000_000_000]) };
+        self.shift(from, old[0], room::TURNOVER, old[2].wrapping_neg());
+        self.shift(from, old[0], room::BALANCE, old[2]);
+        self.shift(from, old[1], room::BALANCE, old[2].wrapping_neg());
+        self.shift(from, debit, room::TURNOVER, amount);
+        self.shift(from, debit, room::BALANCE, amount.wrapping_neg());
+        self.shift(from, credit, room::BALANCE, amount);
+        for (number, value) in [debit, credit, amount].iter().enumerate() {
+            self.put(step + room::STEP_DEBIT + number, *value);
+        }
+    }
+
+    /// The last set of the account that a set concerns, by its place in the room.
+    fn last_set_of(&self, from: usize, set: usize) -> usize {
+        let room = self.player.room();
+        let is_same = |place: &usize| {
+            room[*place] == room::SET && room[place + room::STEP_ACCOUNT] == room[set + room::STEP_ACCOUNT]
+        };
+        (0..STEPS).rev().map(|number| from + JOURNAL + number * STEP_LONG).find(is_same).unwrap_or(set)
+    }
+
+    /// A setting that was given, with what stands in the account to match; or one that stood before, alone.
+    fn poke_setting(&mut self, from: usize) {
+        let some = match self.step_where(from, |step| step[room::STEP_KIND] == room::SET) {
+            Some(step) => step,
+            None => return,
+        };
+        if self.dice.chance(30) {
+            let old = some + room::STEP_OLD.start + self.dice.place(room::SETTINGS.len());
+            let other = self.near(self.player.room()[old]);
+            return self.put(old, other);
+        }
+        let step = self.last_set_of(from, some);
+        let account = (self.player.room()[step + room::STEP_ACCOUNT] as usize).min(room::ACCOUNTS - 1);
+        let number = self.dice.weighed(&[1, 1, 2, 3]);
+        let given = step + room::STEP_GIVEN.start + number;
+        let old = self.player.room()[given];
+        let other = match (number, self.dice.below(3)) {
+            (0 | 1, 0) => 2,
+            (0 | 1, _) => 1 - old.min(1),
+            (2, 0 | 1) => SUM_MOST + self.dice.below(2),
+            (_, 0 | 1) => SUM_MOST + 1 + self.dice.below(2),
+            _ => self.near(old),
+        };
+        self.put(given, other);
+        self.put(from + HEAD_LONG + account * ACCOUNT_LONG + room::SETTINGS.start + number, other);
+    }
+
+    pub(super) fn lay_or_change(&mut self) {
+        if self.dice.chance(40) {
+            let long = self.dice.pick(&[0, 1, 923, 7_383, 7_385, 7_400]);
+            self.line(&format!("lay {}", long));
+            self.any_call();
+            self.lay();
+        } else if self.dice.chance(50) {
+            self.good = self.new_directory();
+            self.write_directory(&self.good.clone());
+        } else {
+            let next = self.date + 1;
+            self.date = if shapes::is_date(next) { next } else { 20240301 };
+        }
+    }
+
+    /// All that a seat holds; or every check that a message fails.
+    pub(super) fn show(&mut self) {
+        let number = if self.dice.chance(90) { self.some_seat() } else { self.dice.below(10) };
+        if self.dice.chance(35) || number >= SEATS as u64 {
+            self.line(&format!("dump {}", number));
+            return;
+        }
+        let kind = self.dice.between(PAYMENT, REQUEST);
+        let mut attempt = self.valid_of(number, kind);
+        for _ in 0..self.dice.between(0, 4) {
+            let check = self.check_of(kind);
+            self.spoil(&mut attempt, check);
+        }
+        let sheet = attempt.draft.sheet();
+        self.rows(&attempt, &sheet);
+    }
+}

@@ -1,0 +1,10 @@
+//! The second engine: document 01 read anew, as functions on lent slices. The program of `main.rs` plays with it.
+
+pub mod calls;
+pub mod checks;
+pub mod directory;
+pub mod message;
+pub mod room;
+pub mod shapes;
+pub mod sheet;
+pub mod slip;

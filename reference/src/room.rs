@@ -1,0 +1,236 @@
+//! The room (docs/LAYOUT.md): 8 seats in one slice of numbers, and when such a slice is fit.
+
+use crate::shapes::{self, AMOUNT_MOST, CODE_MOST};
+use crate::slip;
+
+pub const SEATS: usize = 8;
+pub const PLACES: usize = 16;
+pub const ACCOUNTS: usize = 2 * PLACES;
+pub const STEPS: usize = 24;
+
+pub const HEAD_LONG: usize = 3;
+pub const ACCOUNT_LONG: usize = 7;
+pub const STEP_LONG: usize = 29;
+const ACCOUNTS_FROM: usize = HEAD_LONG;
+const JOURNAL_FROM: usize = ACCOUNTS_FROM + ACCOUNTS * ACCOUNT_LONG;
+pub const SEAT_LONG: usize = JOURNAL_FROM + STEPS * STEP_LONG;
+pub const ROOM_LONG: usize = SEATS * SEAT_LONG;
+
+/// The highest opening number, and the highest opening sum, LTK and LPO in kopecks.
+pub const OPENING_MOST: u64 = 65_535;
+pub const SUM_MOST: u64 = 1_000_000_000_000_000;
+
+// the head of a seat
+pub const OPENING: usize = 0;
+pub const OPENED: usize = 1;
+pub const STEP_COUNT: usize = 2;
+
+// an account; LPO is 0 for none and limit + 1 else
+pub const OPENING_SUM: usize = 0;
+pub const BALANCE: usize = 1;
+pub const TURNOVER: usize = 2;
+pub const OUT: usize = 3;
+pub const INTO: usize = 4;
+pub const LTK: usize = 5;
+pub const LPO: usize = 6;
+pub const SETTINGS: std::ops::Range<usize> = 3..7;
+
+// a step
+pub const STEP_KIND: usize = 0;
+pub const STEP_STATUS: usize = 1;
+pub const STEP_CHECK: usize = 2;
+pub const STEP_SENDER: usize = 3;
+pub const STEP_ID: std::ops::Range<usize> = 4..9;
+pub const STEP_UETR: std::ops::Range<usize> = 9..11;
+pub const STEP_CREATED: usize = 11;
+pub const STEP_REFERENCE: std::ops::Range<usize> = 12..17;
+pub const STEP_DEBIT: usize = 17;
+pub const STEP_CREDIT: usize = 18;
+pub const STEP_AMOUNT: usize = 19;
+pub const STEP_ACCOUNT: usize = 20;
+pub const STEP_OLD: std::ops::Range<usize> = 21..25;
+pub const STEP_GIVEN: std::ops::Range<usize> = 25..29;
+const STEP_MOVEMENT: std::ops::Range<usize> = 17..20;
+const STEP_SETTING: std::ops::Range<usize> = 20..29;
+
+// kinds of steps; the first three are those of messages and stand on slips
+pub const PAYMENT: u64 = 1;
+pub const LIQUIDITY: u64 = 2;
+pub const REQUEST: u64 = 3;
+pub const SET: u64 = 4;
+
+pub type Step = [u64; STEP_LONG];
+
+pub fn seat(room: &[u64], number: usize) -> &[u64] {
+    &room[number * SEAT_LONG..(number + 1) * SEAT_LONG]
+}
+
+pub fn seat_mut(room: &mut [u64], number: usize) -> &mut [u64] {
+    &mut room[number * SEAT_LONG..(number + 1) * SEAT_LONG]
+}
+
+/// The number in the seat of account 1 or 2 of a place.
+pub fn account_number(place: usize, account: u64) -> usize {
+    2 * place + if account == 2 { 1 } else { 0 }
+}
+
+pub fn account(seat: &[u64], number: usize) -> &[u64] {
+    let from = ACCOUNTS_FROM + number * ACCOUNT_LONG;
+    &seat[from..from + ACCOUNT_LONG]
+}
+
+pub fn accounts_mut(seat: &mut [u64]) -> &mut [u64] {
+    &mut seat[ACCOUNTS_FROM..JOURNAL_FROM]
+}
+
+pub fn steps(seat: &[u64]) -> usize {
+    seat[STEP_COUNT] as usize
+}
+
+/// The steps of a fit seat's journal, the first one first.
+pub fn journal(seat: &[u64]) -> impl Iterator<Item = &[u64]> {
+    seat[JOURNAL_FROM..].chunks_exact(STEP_LONG).take(steps(seat))
+}
+
+/// Puts a step behind the last one and carries it out. There is room for it, and it does not take more than there is.
+pub fn add_step(seat: &mut [u64], step: &Step) {
+    let from = JOURNAL_FROM + steps(seat) * STEP_LONG;
+    seat[from..from + STEP_LONG].copy_from_slice(step);
+    seat[STEP_COUNT] += 1;
+    carry_out(accounts_mut(seat), step);
+}
+
+/// Takes back the last step: money, turnover and settings are as before it, and its place is zeros again.
+pub fn take_step_back(seat: &mut [u64]) {
+    seat[STEP_COUNT] -= 1;
+    let from = JOURNAL_FROM + steps(seat) * STEP_LONG;
+    let (before, behind) = seat.split_at_mut(from);
+    let step = &mut behind[..STEP_LONG];
+    undo(&mut before[ACCOUNTS_FROM..JOURNAL_FROM], step);
+    step.fill(0);
+}
+
+fn at(account: u64, place: usize) -> usize {
+    account as usize * ACCOUNT_LONG + place
+}
+
+/// What a step of right ranges does to the accounts: false where a balance would fall below zero, or where the old
+/// settings of a set are not those that stand there.
+fn carry_out(accounts: &mut [u64], step: &[u64]) -> bool {
+    if step[STEP_KIND] == SET {
+        let settings = &mut accounts[at(step[STEP_ACCOUNT], SETTINGS.start)..][..SETTINGS.len()];
+        let are_old = *settings == step[STEP_OLD];
+        settings.copy_from_slice(&step[STEP_GIVEN]);
+        return are_old;
+    }
+    let (debit, credit, amount) = (step[STEP_DEBIT], step[STEP_CREDIT], step[STEP_AMOUNT]);
+    accounts[at(debit, TURNOVER)] += amount;
+    if debit == credit {
+        return true; // one account both times: the balance stays
+    }
+    accounts[at(credit, BALANCE)] += amount;
+    let balance = &mut accounts[at(debit, BALANCE)];
+    let is_enough = amount <= *balance;
+    *balance = balance.saturating_sub(amount);
+    is_enough
+}
+
+/// The accounts as they were before a step that was carried out.
+fn undo(accounts: &mut [u64], step: &[u64]) {
+    if step[STEP_KIND] == SET {
+        let from = at(step[STEP_ACCOUNT], SETTINGS.start);
+        accounts[from..from + SETTINGS.len()].copy_from_slice(&step[STEP_OLD]);
+        return;
+    }
+    let (debit, credit, amount) = (step[STEP_DEBIT], step[STEP_CREDIT], step[STEP_AMOUNT]);
+    accounts[at(debit, TURNOVER)] -= amount;
+    if debit != credit {
+        accounts[at(credit, BALANCE)] -= amount;
+        accounts[at(debit, BALANCE)] += amount;
+    }
+}
+
+/// All bits are gathered without a way out in between: most of a room is zeros, and so it goes fastest.
+fn are_zeros(numbers: &[u64]) -> bool {
+    numbers.iter().fold(0, |bits, number| bits | number) == 0
+}
+
+/// Length and ranges are right, and each journal, worked forward, gives what is stored.
+pub fn is_fit(room: &[u64]) -> bool {
+    room.len() == ROOM_LONG && room.chunks_exact(SEAT_LONG).all(is_fit_seat)
+}
+
+fn is_fit_seat(seat: &[u64]) -> bool {
+    seat[OPENING] <= OPENING_MOST
+        && match seat[OPENED] {
+            0 => are_zeros(&seat[OPENED..]),
+            1 => seat[OPENING] >= 1 && seat[STEP_COUNT] <= STEPS as u64 && comes_out(seat),
+            _ => false,
+        }
+}
+
+/// An open seat's journal worked forward from its opening sums, no balance below zero behind any step.
+fn comes_out(seat: &[u64]) -> bool {
+    let mut accounts = [0; ACCOUNTS * ACCOUNT_LONG];
+    let stored = &seat[ACCOUNTS_FROM..JOURNAL_FROM];
+    for (worked, account) in accounts.chunks_exact_mut(ACCOUNT_LONG).zip(stored.chunks_exact(ACCOUNT_LONG)) {
+        if account[OPENING_SUM] > SUM_MOST {
+            return false;
+        }
+        worked[OPENING_SUM] = account[OPENING_SUM];
+        worked[BALANCE] = account[OPENING_SUM];
+    }
+    let unused = JOURNAL_FROM + steps(seat) * STEP_LONG;
+    journal(seat).all(|step| has_ranges(step) && carry_out(&mut accounts, step))
+        && are_zeros(&seat[unused..])
+        && accounts == *stored
+}
+
+/// The ranges of a step: what its kind has is right, what it lacks is zero.
+fn has_ranges(step: &[u64]) -> bool {
+    match step[STEP_KIND] {
+        PAYMENT | LIQUIDITY | REQUEST => {
+            slip::is_result(step[STEP_KIND], step[STEP_STATUS], step[STEP_CHECK])
+                && step[STEP_SENDER] <= CODE_MOST
+                && shapes::is_stored_identifier(&step[STEP_ID])
+                && shapes::is_stored_uetr(&step[STEP_UETR])
+                && shapes::is_time(step[STEP_CREATED])
+                && has_reference(step)
+                && has_movement(step)
+                && are_zeros(&step[STEP_SETTING])
+        }
+        SET => {
+            are_zeros(&step[STEP_STATUS..STEP_ACCOUNT])
+                && step[STEP_ACCOUNT] < ACCOUNTS as u64
+                && are_settings(&step[STEP_OLD])
+                && are_settings(&step[STEP_GIVEN])
+        }
+        _ => false,
+    }
+}
+
+/// A camt.050 has no end-to-end identifier.
+fn has_reference(step: &[u64]) -> bool {
+    if step[STEP_KIND] == LIQUIDITY {
+        are_zeros(&step[STEP_REFERENCE])
+    } else {
+        shapes::is_stored_identifier(&step[STEP_REFERENCE])
+    }
+}
+
+/// A movement stands exactly where a transfer was carried out: between the two accounts of one place for camt.050,
+/// between accounts 2 for pacs.008.
+fn has_movement(step: &[u64]) -> bool {
+    let (debit, credit, amount) = (step[STEP_DEBIT], step[STEP_CREDIT], step[STEP_AMOUNT]);
+    let are_accounts = debit < ACCOUNTS as u64 && credit < ACCOUNTS as u64 && (1..=AMOUNT_MOST).contains(&amount);
+    match (step[STEP_KIND], step[STEP_STATUS]) {
+        (PAYMENT, slip::ACCC) => are_accounts && debit % 2 == 1 && credit % 2 == 1,
+        (LIQUIDITY, slip::ACCC) => are_accounts && debit ^ credit == 1,
+        _ => are_zeros(&step[STEP_MOVEMENT]),
+    }
+}
+
+/// Blocks outgoing and incoming, LTK, and LPO as none or limit + 1.
+fn are_settings(settings: &[u64]) -> bool {
+    settings[0] <= 1 && settings[1] <= 1 && settings[2] <= SUM_MOST && settings[3] <= SUM_MOST + 1
+}
