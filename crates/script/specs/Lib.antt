@@ -1,0 +1,4 @@
+pub mod Places
+pub mod Said
+pub mod Words
+pub mod Lines
