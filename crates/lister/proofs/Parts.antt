@@ -10,7 +10,8 @@ use native.Mathlib.Numerals.{add-one}
 use lib.ListN.{length, take, drop, getD, drop-of-length-le}
 use lib.Seq.{drop-cons, take-nil, take-length}
 use Rattle.sheet.specs.Grammar.{isNameByte}
-use Rattle.outline.specs.Rows.{while, nameAt, ccyAt, textAt}
+use Rattle.sheet.specs.Reader.{while}
+use Rattle.outline.specs.Rows.{nameAt, ccyAt, textAt}
 use Rattle.outline.specs.declared.Parts.{Parts}
 use Rattle.shape.specs.Text.{bytes}
 use Rattle.outline.proofs.Shown.{Shows}

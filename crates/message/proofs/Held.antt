@@ -11,11 +11,13 @@ use lib.ListN.{length, take, drop, length-take, length-drop}
 use borrow.Author.Tests.{ne-eqb, ltb-false}
 use Rattle.shape.specs.Bytes.{isText}
 use Rattle.shape.proofs.Tests.{and-false}
+use Rattle.sheet.specs.Reader.{shownAt}
+use Rattle.sheet.proofs.Parted.{part-there}
+use Rattle.sheet.proofs.While.{while-inside}
 use Rattle.outline.specs.Rows.{nameEnd, hasCcy, ccyAt, insideAt, hasText, textAt}
 use Rattle.outline.specs.Places.{textEnd, noParts, partsOf}
 use Rattle.outline.specs.Paths.{charactersOf}
 use Rattle.outline.specs.declared.Parts.{Parts}
-use Rattle.outline.proofs.While.{while-inside}
 use Rattle.outline.proofs.Shown.{Shows, text-there, text-missing}
 use Rattle.message.specs.declared.kinds.Shape.{Shape}
 use Rattle.message.specs.declared.kinds.Ccy.{Ccy}
@@ -23,7 +25,6 @@ use Rattle.message.specs.declared.parts.Spot.{Spot}
 use Rattle.message.specs.Good.{Held, missing, once, doubled, hasShape, ccyFits, textFits, isGood}
 use Rattle.message.specs.Message.{ccyIn, startIn, lengthIn}
 use Rattle.message.specs.Seen.{heldAt}
-use Rattle.message.proofs.Parted.{three-bytes}
 
 module _ (s : List ℕ) (count start : ℕ) where
   pub held-missing : count ≡ 0 → heldAt s count start ≡ missing
@@ -134,9 +135,15 @@ module _ (s : List ℕ) (count start : ℕ) where
     unfolding ccyIn
     ccy-absent h g = rw (held-there h, g)
 
-    pub ccy-there : p .text ≡ true → p .ccy ≡ true → take ((p .to + 9) - (p .to + 6)) (drop (p .to + 6) s) ≡ ccyIn (heldAt s count start)
+    pub ccy-there : p .text ≡ true → p .ccy ≡ true → shownAt s (p .to + 6) 3 ≡ ccyIn (heldAt s count start)
     unfolding ccyIn
-    ccy-there h g = three-bytes s (p .to) ∙ rw (held-there h, g)
+    ccy-there h g = part-there s (p .to + 6) 3 (omega (arith, stands s start p e .ccy-within g)) ∙ rw (held-there h, g)
+
+    -- the text that is shown is the one that stands there
+    pub text-shown : shownAt s (p .inside) (p .end - p .inside) ≡ take (p .end - p .inside) (drop (p .inside) s)
+    text-shown =
+        let w : Stands s p = stands s start p e in
+        part-there s (p .inside) (p .end - p .inside) (omega (arith, w .forward, w .end-within))
 
     module _ (optional : Bool) (shape : Shape) (ccy : Ccy) where
       pub good-textless : p .text ≡ false → false ≡ isGood optional shape ccy (heldAt s count start)

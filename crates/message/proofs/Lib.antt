@@ -8,7 +8,6 @@ pub mod Held
 pub mod Judged
 pub mod Lowest
 pub mod OfRows
-pub mod Parted
 pub mod Settled
 pub mod Shaped
 pub mod Stands

@@ -12,22 +12,23 @@ use borrow.Author.Tests.{leb-true, le-leb, leb-false}
 use Rattle.shape.specs.Bytes.{isText}
 use Rattle.shape.specs.declared.value.Value.{Value}
 use Rattle.table.specs.declared.Kind.{Kind}
-use Rattle.outline.specs.Rows.{while, ccyAt, insideAt, hasText, textAt}
+use Rattle.sheet.specs.Reader.{while, shownAt}
+use Rattle.sheet.proofs.While.{take-while, while-inside}
+use Rattle.outline.specs.Rows.{ccyAt, insideAt, hasText, textAt}
 use Rattle.outline.specs.Paths.{charactersOf}
-use Rattle.outline.proofs.While.{take-while, while-inside}
 use Rattle.message.specs.Fields.{Field}
 use Rattle.message.specs.Good.{Held, missing, once, doubled}
 use Rattle.message.specs.Message.{textIn, startIn, lengthIn, numbered, messageFrom}
-use Rattle.message.specs.Received.{byNumber, partOf, shownIn}
+use Rattle.message.specs.Received.{byNumber, shownIn}
 use Rattle.message.specs.Seen.{heldAt}
 
 -- what a field holds stands in the sheet
 abbrev pub Stands : List ℕ → Held → Type 0
-Stands s h = partOf s (startIn h) (lengthIn h) ≡ textIn h
+Stands s h = shownAt s (startIn h) (lengthIn h) ≡ textIn h
 
 -- at the sheet's front there is always a part of no bytes
-pub no-part : (s : List ℕ) → partOf s 0 0 ≡ []
-unfolding partOf
+pub no-part : (s : List ℕ) → shownAt s 0 0 ≡ []
+unfolding shownAt
 no-part s = let h : 0 + 0 ≤ length s = omega arith in rw (le-leb (0 + 0) (length s) h)
 
 pub missing-stands : (s : List ℕ) → Stands s missing
@@ -51,8 +52,8 @@ text-within s a e = go (leb (insideAt s a) (length s)) refl
     go false f = absurd (false≢true (sym (no-text s a (omega (arith, leb-false (insideAt s a) (length s) f))) ∙ e))
 
 -- the text of the element at a place stands where its content begins
-part-read : (s : List ℕ) (i : ℕ) → i ≤ length s → partOf s i (length (while isText (drop i s))) ≡ while isText (drop i s)
-unfolding partOf
+part-read : (s : List ℕ) (i : ℕ) → i ≤ length s → shownAt s i (length (while isText (drop i s))) ≡ while isText (drop i s)
+unfolding shownAt
 part-read s i h = rw (le-leb (i + length (while isText (drop i s))) (length s) (while-inside isText s i h)) (take-while isText (drop i s))
 
 pub element-stands : (s : List ℕ) (a : ℕ) → Stands s (once (ccyAt s a) (insideAt s a) (textAt s a))

@@ -2,10 +2,11 @@
 use mathlib.Core.Bool.{cond}
 use mathlib.Core.List.{List, [], _∷_, _++_, map}
 use mathlib.Core.Path.{_≡_}
-use Prim.Native.Nat.{ℕ, _+_, _-_}
+use Prim.Native.Nat.{ℕ, _-_}
 use lib.Dec.{eqb, leb}
-use lib.ListN.{length, getD, replicate, take, drop}
+use lib.ListN.{length, getD, replicate}
 use Rattle.sheet.specs.Answer.{Reading, accepted, refused, readingOf}
+use Rattle.sheet.specs.Reader.{shownAt}
 use Rattle.outline.specs.Rows.{Row, rowsOf}
 use Rattle.outline.specs.Paths.{samePath, standing, atDepth}
 use Rattle.table.specs.declared.Kind.{Kind}
@@ -83,13 +84,9 @@ receivedFrom s (accepted n starts depths) = receivedAs (kindOf (rowsOf s n start
 unfoldable pub receivedOf : List ℕ → Received
 receivedOf s = receivedFrom s (readingOf s)
 
--- the part of a sheet from a place on, of a length; nothing where the sheet is too short for it
-unfoldable pub partOf : List ℕ → ℕ → ℕ → List ℕ
-partOf s a n = cond (leb (a + n) (length s)) (take n (drop a s)) []
-
 -- the part that is shown as the field with a number
 unfoldable pub shownIn : List ℕ → List ℕ → List ℕ → ℕ → List ℕ
-shownIn s starts lengths k = partOf s (getD starts k 0) (getD lengths k 0)
+shownIn s starts lengths k = shownAt s (getD starts k 0) (getD lengths k 0)
 
 -- and of what was received: no field has a number above 14
 unfoldable pub fieldShown : List ℕ → Received → ℕ → List ℕ

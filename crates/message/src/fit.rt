@@ -12,6 +12,7 @@ use shape::field::names_pacs_008;
 use shape::pattern::matches;
 use shape::stored::is_uetr;
 use shape::value::Value;
+use sheet::shown_at;
 ghost use mathlib.Core.Path.{_≡_};
 ghost use mathlib.Core.Bool.{true, cond};
 ghost use mathlib.Core.Option.{some, none};
@@ -58,12 +59,10 @@ fn ccy_fits(s: &[u8], wanted: Ccy, given: bool, to: usize) -> bool
             Ccy::Hryvnia => false,
         };
     }
-    let from = to + 6;
-    let end = to + 9;
     match wanted {
         Ccy::Absent => false,
         Ccy::Any => true,
-        Ccy::Hryvnia => matches(b"UAH", &s[from..end]),
+        Ccy::Hryvnia => matches(b"UAH", shown_at(s, to + 6, 3)),
     }
 }
 
@@ -83,7 +82,6 @@ pub fn is_good(s: &[u8], e: Entry, count: usize, start: usize) -> bool
     }
     let wanted = e.ccy;
     let shape = e.shape;
-    let from = parts.inside;
-    let end = parts.end;
-    ccy_fits(s, wanted, parts.ccy, parts.to) & has_shape(shape, &s[from..end])
+    let text = shown_at(s, parts.inside, parts.end - parts.inside);
+    ccy_fits(s, wanted, parts.ccy, parts.to) & has_shape(shape, text)
 }

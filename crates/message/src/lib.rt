@@ -13,7 +13,6 @@ use kinds::entry_at;
 use kinds::field_count;
 use kinds::kind_of;
 use parts::ccy_of;
-use parts::part;
 use parts::spot_of;
 use paths::survey;
 use remainder::Mod97;
@@ -32,6 +31,7 @@ use shape::stored::Uetr;
 use shape::stored::identifier_of;
 use shape::stored::uetr_of;
 use shape::value::Value;
+use sheet::shown_at;
 use table::Kind;
 ghost use mathlib.Core.Path.{_≡_};
 ghost use mathlib.Core.List.{map};
@@ -181,7 +181,7 @@ fn shown<'a>(s: &'a [u8], starts: &[usize; 15], lengths: &[usize; 15], number: u
     requires { ⌜ (15 ≤ length (now starts)) × (15 ≤ length (now lengths)) × (number ≤ 14) ⌝ }
     ensures { λ r. ⌜ now r ≡ shownIn (now (s .entry)) (now (starts .entry)) (now (lengths .entry)) number ⌝ }
 {
-    part(s, starts[number], lengths[number])
+    shown_at(s, starts[number], lengths[number])
 }
 
 fn name_of(s: &[u8]) -> Name

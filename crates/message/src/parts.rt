@@ -1,28 +1,14 @@
 // The parts of a sheet that the fields of a message are.
 use outline::parts_at;
+use sheet::shown_at;
 ghost use mathlib.Core.Path.{_≡_};
 ghost use Rattle.message.specs.Message.{ccyIn, startIn, lengthIn};
-ghost use Rattle.message.specs.Received.{partOf};
 ghost use Rattle.message.specs.Seen.{heldAt};
 
 // Where a text starts and how long it is.
 pub struct Spot {
     pub start: usize,
     pub length: usize,
-}
-
-// The part of a sheet from a place on, of a length; nothing where the sheet is too short for it.
-pub fn part(s: &[u8], start: usize, length: usize) -> &[u8]
-    ensures { λ r. ⌜ now r ≡ partOf (now (s .entry)) start length ⌝ }
-{
-    if s.len() < start {
-        return &s[..0];
-    }
-    if s.len() - start < length {
-        return &s[..0];
-    }
-    let end = start + length;
-    &s[start..end]
 }
 
 // Where the text stands of a field whose path is counted so often and starts there.
@@ -48,7 +34,7 @@ pub fn spot_of(s: &[u8], count: usize, start: usize) -> Spot
     }
 }
 
-// The Ccy of such a field, or nothing.
+// The Ccy of such a field, or nothing. Its three bytes stand six behind the end of the element's name.
 pub fn ccy_of(s: &[u8], count: usize, start: usize) -> &[u8]
     ensures { λ r. ⌜ now r ≡ ccyIn (heldAt (now (s .entry)) count start) ⌝ }
 {
@@ -62,7 +48,5 @@ pub fn ccy_of(s: &[u8], count: usize, start: usize) -> &[u8]
     if !parts.ccy {
         return &s[..0];
     }
-    let from = parts.to + 6;
-    let end = parts.to + 9;
-    &s[from..end]
+    shown_at(s, parts.to + 6, 3)
 }

@@ -2,11 +2,11 @@ pub mod Around
 pub mod Contents
 pub mod Gathered
 pub mod GoodParts
+pub mod Named
 pub mod OfTree
 pub mod Opened
 pub mod Paths
 pub mod Settled
 pub mod Shown
 pub mod Standing
-pub mod While
 pub mod Walk

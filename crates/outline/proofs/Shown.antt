@@ -10,10 +10,11 @@ use lib.Dec.{leb, ltb}
 use lib.ListN.{length, take, drop, List·getD-eq-default}
 use borrow.Author.Tests.{leb-true, ltb-true, ltb-false}
 use Rattle.shape.specs.Bytes.{isText}
-use Rattle.outline.specs.Rows.{while, nameEnd, hasCcy, ccyAt, insideAt, hasText, textAt}
+use Rattle.sheet.specs.Reader.{while}
+use Rattle.outline.specs.Rows.{nameEnd, hasCcy, ccyAt, insideAt, hasText, textAt}
 use Rattle.outline.specs.Places.{textEnd, noParts, partsOf}
 use Rattle.outline.specs.declared.Parts.{Parts}
-use Rattle.outline.proofs.While.{take-while}
+use Rattle.sheet.proofs.While.{take-while}
 
 -- what the places of an element with a text show
 pub record Shows (s : List ℕ) (a : ℕ) (p : Parts) : Type 0 where

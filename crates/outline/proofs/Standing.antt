@@ -9,7 +9,7 @@ use lib.ListN.{length, getD, drop}
 use lib.Seq.{drop-drop, drop-append-seam, getD-drop}
 use Rattle.shape.specs.Bytes.{every}
 use Rattle.shape.proofs.Tests.{and-left, and-right}
-use Rattle.outline.specs.Rows.{while}
+use Rattle.sheet.specs.Reader.{while}
 
 -- where x stands with y behind it, y stands as many places on as x has
 pub stands-behind : (s x y : List ℕ) (a : ℕ) → drop a s ≡ x ++ y → drop (a + length x) s ≡ y

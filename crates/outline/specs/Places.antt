@@ -5,7 +5,8 @@ use Prim.Native.Nat.{ℕ, _+_}
 use lib.Dec.{leb, ltb}
 use lib.ListN.{length, drop}
 use Rattle.shape.specs.Bytes.{isText}
-use Rattle.outline.specs.Rows.{while, nameEnd, hasCcy, insideAt, hasText}
+use Rattle.sheet.specs.Reader.{while}
+use Rattle.outline.specs.Rows.{nameEnd, hasCcy, insideAt, hasText}
 use Rattle.outline.specs.declared.Parts.{Parts}
 
 -- where the text bytes from the content on end

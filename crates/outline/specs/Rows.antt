@@ -10,6 +10,7 @@ use lib.Dec.{eqb}
 use lib.ListN.{length, getD, take, drop}
 use Rattle.shape.specs.Bytes.{isText}
 use Rattle.sheet.specs.Grammar.{Element, leaf, parent, Elements, one, more, opening, render, isNameByte}
+use Rattle.sheet.specs.Reader.{while}
 
 -- the names of an element and of those around it, innermost first; where in the sheet its content begins; what it holds
 pub record Row : Type 0 where
@@ -30,11 +31,6 @@ unfoldable mutual
   pub rowsAll : Elements → ℕ → List (List ℕ) → List Row
   rowsAll (one e) i around = rows e i around
   rowsAll (more e es) i around = rows e i around ++ rowsAll es (i + length (render e)) around
-
--- the bytes in front that pass a test
-abbrev pub while : (ℕ → Bool) → List ℕ → List ℕ
-while f [] = []
-while f (b ∷ s) = cond (f b) (b ∷ while f s) []
 
 -- of the element whose `<` stands at a: its name and where it ends; whether a Ccy follows, and which; where its content begins; its text
 unfoldable pub nameAt : List ℕ → ℕ → List ℕ

@@ -2,17 +2,15 @@
 // rows and know nothing of trees.
 // The rows stand in `specs/Rows.antt`, the places that the code gives for them in `specs/Places.antt`; that on a well-formed sheet they are
 // the tree's is the theorem of `proofs/OfTree.antt`.
-use shape::byte::is_text;
 use shape::byte::peek;
-use sheet::is_name_byte;
+use sheet::Ahead;
+use sheet::name_bytes_end;
+use sheet::next_at;
 ghost use mathlib.Core.Path.{_≡_};
 ghost use mathlib.Core.Bool.{cond};
-ghost use Prim.Native.Nat.{_+_, _-_, _≤_, _<_, _^_};
+ghost use Prim.Native.Nat.{_+_, _-_, _<_, _^_};
 ghost use lib.Dec.{ltb};
-ghost use lib.ListN.{length, drop};
-ghost use Rattle.shape.specs.Bytes.{isText};
-ghost use Rattle.sheet.specs.Grammar.{isNameByte};
-ghost use Rattle.outline.specs.Rows.{while, nameAt};
+ghost use Rattle.outline.specs.Rows.{nameAt};
 ghost use Rattle.outline.specs.Places.{noParts, partsOf};
 
 // Where the parts of an element stand: its name ends at `to`; its Ccy, if it has one, is the three bytes from `to + 6` on; its content begins
@@ -38,21 +36,6 @@ fn nothing() -> Parts
     }
 }
 
-// The end of the name bytes from a place on.
-fn name_end(s: &[u8], from: usize) -> usize
-    requires { ⌜ from ≤ length (now s) ⌝ }
-    ensures { λ r. ⌜ r ≡ from + length (while isNameByte (drop from (now (s .entry)))) ⌝ }
-{
-    let mut i = from;
-    while i < s.len() {
-        if !is_name_byte(s[i]) {
-            return i;
-        }
-        i += 1;
-    }
-    i
-}
-
 // The name of the element whose `<` stands at a place, as that part of the sheet.
 pub fn name_at(s: &[u8], start: usize) -> &[u8]
     ensures { λ r. ⌜ now r ≡ nameAt (now (s .entry)) start ⌝ }
@@ -61,23 +44,8 @@ pub fn name_at(s: &[u8], start: usize) -> &[u8]
         return &s[..0];
     }
     let from = start + 1;
-    let to = name_end(s, from);
+    let to = name_bytes_end(s, from);
     &s[from..to]
-}
-
-// The end of the text bytes from a place on.
-fn text_end(s: &[u8], from: usize) -> usize
-    requires { ⌜ from ≤ length (now s) ⌝ }
-    ensures { λ r. ⌜ r ≡ from + length (while isText (drop from (now (s .entry)))) ⌝ }
-{
-    let mut i = from;
-    while i < s.len() {
-        if !is_text(s[i]) {
-            return i;
-        }
-        i += 1;
-    }
-    i
 }
 
 // Where the content begins: behind `>`, or behind ` Ccy="UAH">`.
@@ -98,19 +66,27 @@ pub fn parts_at(s: &[u8], start: usize) -> Parts
     if s.len() <= start {
         return nothing();
     }
-    let to = name_end(s, start + 1);
+    let to = name_bytes_end(s, start + 1);
     let ccy = peek(s, to) == b' ';
     let inside = behind_tag(to, ccy);
     if s.len() < inside {
         return nothing();
     }
-    let end = text_end(s, inside);
+    if let Ahead::Text(end) = next_at(s, inside) {
+        return Parts {
+            to,
+            ccy,
+            inside,
+            text: true,
+            end,
+        };
+    }
     Parts {
         to,
         ccy,
         inside,
-        text: is_text(peek(s, inside)),
-        end,
+        text: false,
+        end: inside,
     }
 }
 

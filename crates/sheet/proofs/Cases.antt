@@ -1,7 +1,7 @@
--- Case 9 of document 01, and its first listing, worked out over the definitions.
+-- Case 9 of document 01, its first listing, and what stands at the places of a sheet, worked out over the definitions.
 -- Assumes nothing.
 use mathlib.Core.Path.{_≡_, refl}
-use mathlib.Core.List.{List, [], _∷_, _++_}
+use mathlib.Core.List.{List, [], _∷_, _++_, map}
 use Prim.Native.Nat.{ℕ}
 use lib.ListN.{take}
 use Rattle.shape.specs.Text.{bytes}
@@ -9,6 +9,9 @@ use Rattle.shape.specs.Bytes.{isDigit, isCapital, isSmall, isLetter, isText}
 use Rattle.sheet.specs.Grammar.{isNameByte}
 use Rattle.sheet.specs.Machine.{step}
 use Rattle.sheet.specs.Answer.{Reading, accepted, refused, run, readingOf}
+use Rattle.sheet.specs.Reader.{nextIn, shownAt}
+use Rattle.sheet.specs.declared.reader.Ahead.{Ahead}
+use Rattle.sheet.specs.declared.reader.Ahead.the-variants.{Element, Text, Neither}
 
 -- an empty element, a closing tag of another name, nothing at all
 pub case-9-empty : readingOf (bytes "<A></A>") ≡ refused 4
@@ -38,3 +41,17 @@ listed = refl
 pub places : placesOf (readingOf (bytes "<Document><A><B>x</B><C Ccy=\"UAH\">1.00</C></A></Document>")) ≡ 0 ∷ 10 ∷ 13 ∷ 21 ∷ 0 ∷ 1 ∷ 2 ∷ 3 ∷ 3 ∷ 0 ∷ []
 unfolding readingOf run step isLetter isCapital isSmall isDigit isText isNameByte
 places = refl
+
+-- an element of the name AB, its text, no element and no text where its closing tag begins, and nothing behind the end
+pub ahead : map (nextIn (bytes "<AB>x y</AB>")) (0 ∷ 4 ∷ 7 ∷ 12 ∷ []) ≡ Element 3 ∷ Text 7 ∷ Neither ∷ Neither ∷ []
+unfolding nextIn isLetter isCapital isSmall isDigit isText isNameByte
+ahead = refl
+
+-- its text as that part of the sheet; a part that the sheet is too short for is not there
+pub part-shown : shownAt (bytes "<AB>x y</AB>") 4 3 ≡ bytes "x y"
+unfolding shownAt
+part-shown = refl
+
+pub part-too-long : shownAt (bytes "<AB>x y</AB>") 4 9 ≡ []
+unfolding shownAt
+part-too-long = refl

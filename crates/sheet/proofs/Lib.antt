@@ -1,4 +1,5 @@
 pub mod Acceptance
+pub mod Ahead
 pub mod Cases
 pub mod Children
 pub mod Descent
@@ -6,9 +7,11 @@ pub mod Ends
 pub mod Names
 pub mod Opened
 pub mod Outer
+pub mod Parted
 pub mod Reading
 pub mod Runs
 pub mod Settled
 pub mod Tags
 pub mod Viability
+pub mod While
 pub mod Within

@@ -5,3 +5,4 @@ pub mod Right
 pub mod Parts
 pub mod Element
 pub mod Sheet
+pub mod Reader

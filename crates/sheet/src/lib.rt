@@ -1,13 +1,27 @@
 // Reading a sheet: whether it is well formed, and where its elements start and how deep each stands; or the place of the first byte that no
 // well-formed sheet has there. Document 01, "The sheet".
+// A `Reader` is a sheet and a place in it: what stands next there, and a field as that part of the sheet.
 // It knows nothing of messages. The grammar stands in `specs/Grammar.antt`, the reading byte by byte in `specs/Machine.antt` and
-// `specs/Answer.antt`.
+// `specs/Answer.antt`, what stands at a place in `specs/Reader.antt`.
 
 mod element;
 mod parts;
+mod reader;
 
 use element::element;
 pub use parts::is_name_byte;
+pub use reader::Ahead;
+pub use reader::Reader;
+pub use reader::begin;
+pub use reader::moved;
+pub use reader::name_bytes_end;
+pub use reader::next;
+pub use reader::next_at;
+pub use reader::next_in;
+pub use reader::part;
+pub use reader::place;
+pub use reader::shown;
+pub use reader::shown_at;
 use shape::byte::peek;
 ghost use mathlib.Core.Path.{_≡_};
 ghost use Rattle.sheet.specs.Sheet.{Answers, sheetOf};

@@ -4,32 +4,32 @@ use borrow.Author.Needs.{needs}
 use Rattle.message.proofs.shown.Statement.{statement}
 use Rattle.message.proofs.shown.Tie as tie
 
-mul-part : tie.Need-mul-part
-mul-part c = search needs
+mul-shown-at : tie.Need-mul-shown-at
+mul-shown-at c = search needs
 
-element-copy-out-part : tie.Need-element-copy-out-part
-element-copy-out-part c = search needs
+element-copy-out-shown-at : tie.Need-element-copy-out-shown-at
+element-copy-out-shown-at c = search needs
 
-mul-part-2 : tie.Need-mul-part-2
-mul-part-2 c = search needs
+mul-shown-at-2 : tie.Need-mul-shown-at-2
+mul-shown-at-2 c = search needs
 
-element-copy-out-part-2 : tie.Need-element-copy-out-part-2
-element-copy-out-part-2 c = search needs
+element-copy-out-shown-at-2 : tie.Need-element-copy-out-shown-at-2
+element-copy-out-shown-at-2 c = search needs
 
-part-requires : tie.Need-part-requires
-part-requires c κs = search needs
+shown-at-requires : tie.Need-shown-at-requires
+shown-at-requires c κs = search needs
 
 returns : tie.Need-returns
 unfolding shownIn
-returns c = c .part .ensures
+returns c = c .shown-at .ensures
 
 pub shown-spec : {M : Type 1} → statement M
 shown-spec =
     tie.close
     (tie.spec
-    mul-part
-    element-copy-out-part
-    mul-part-2
-    element-copy-out-part-2
-    part-requires
+    mul-shown-at
+    element-copy-out-shown-at
+    mul-shown-at-2
+    element-copy-out-shown-at-2
+    shown-at-requires
     returns)

@@ -2,7 +2,8 @@
 use native.Mathlib.Omega.{arith}
 use Prim.Native.Nat.{_+_}
 use Rattle.sheet.specs.Grammar.{isNameByte}
-use Rattle.outline.proofs.While.{while-inside, name-part, no-name}
+use Rattle.sheet.proofs.While.{while-inside}
+use Rattle.outline.proofs.Named.{name-part, no-name}
 use borrow.Author.Needs.{needs}
 use Rattle.outline.proofs.name_at.Statement.{statement}
 use Rattle.outline.proofs.name_at.Tie as tie
@@ -16,8 +17,8 @@ returns c = no-name (c .before .before .before .args .s .now) (c .before .before
 add-from : tie.Need-add-from
 add-from c = search needs
 
-name-end-requires : tie.Need-name-end-requires
-name-end-requires c κs = search needs
+name-bytes-end-requires : tie.Need-name-bytes-end-requires
+name-bytes-end-requires c κs = search needs
 
 sub-result : tie.Need-sub-result
 sub-result c = search needs
@@ -26,10 +27,10 @@ part-result-start : tie.Need-part-result-start
 part-result-start c = search needs
 
 part-result-end : tie.Need-part-result-end
-part-result-end c = omega (arith, c .name-end .ensures, while-inside isNameByte (c .before .before .before .args .s .now) (c .before .before .before .args .start + 1) (omega arith))
+part-result-end c = omega (arith, c .name-bytes-end .ensures, while-inside isNameByte (c .before .before .before .args .s .now) (c .before .before .before .args .start + 1) (omega arith))
 
 returns-2 : tie.Need-returns-2
-returns-2 c = name-part (c .before .before .before .before .args .s .now) (c .before .before .before .before .args .start) (c .before .name-end .result) (c .before .name-end .ensures)
+returns-2 c = name-part (c .before .before .before .before .args .s .now) (c .before .before .before .before .args .start) (c .before .name-bytes-end .result) (c .before .name-bytes-end .ensures)
 
 pub name-at-spec : {M : Type 1} → statement M
 name-at-spec =
@@ -38,7 +39,7 @@ name-at-spec =
     slice-aggregate-result
     returns
     add-from
-    name-end-requires
+    name-bytes-end-requires
     sub-result
     part-result-start
     part-result-end

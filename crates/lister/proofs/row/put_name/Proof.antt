@@ -5,7 +5,8 @@ use native.Mathlib.Omega.{arith}
 use lib.ListN.{length, drop}
 use borrow.Author.Tests.{not-true, not-false}
 use Rattle.sheet.specs.Grammar.{isNameByte}
-use Rattle.outline.specs.Rows.{while, nameAt}
+use Rattle.sheet.specs.Reader.{while}
+use Rattle.outline.specs.Rows.{nameAt}
 use Rattle.lister.proofs.Written.{Still, wrote-nothing, wrote-as, still-less, still-nothing}
 use Rattle.lister.proofs.Parts.{no-name, name-begins, while-goes, while-stops, while-ends}
 use Rattle.lister.proofs.row.put_name.Statement.{statement}

@@ -1,11 +1,12 @@
 -- Each return rewrites with the arm and with whether a Ccy is given.
 use mathlib.Core.Path.{ap, _∙_}
+use Prim.Native.Nat.{_+_}
 use native.Mathlib.Omega.{arith}
 use borrow.Author.Tests.{not-true, not-false}
 use Rattle.shape.specs.Text.{bytes}
 use Rattle.shape.specs.Patterns.{fits}
 use Rattle.message.specs.Good.{ccyFits}
-use Rattle.message.proofs.Parted.{three-bytes}
+use Rattle.sheet.proofs.Parted.{part-there}
 use borrow.Author.Needs.{needs}
 use Rattle.message.proofs.fit.ccy_fits.Statement.{statement}
 use Rattle.message.proofs.fit.ccy_fits.Tie as tie
@@ -31,12 +32,6 @@ returns-3 : tie.Need-returns-3
 unfolding ccyFits
 returns-3 c = rw (c .enum-told3 .given .1, not-true (c .before .before .before .before .args .given) (c .before .before .if1 .taken))
 
-add-from : tie.Need-add-from
-add-from c = omega (arith, c .before .before .pre (not-false (c .before .before .args .given) (c .if1 .left)), c .before .before .good .0)
-
-add-end : tie.Need-add-end
-add-end c = omega (arith, c .before .before .pre (not-false (c .before .before .args .given) (c .if1 .left)), c .before .before .good .0)
-
 enum-told-4 : tie.Need-enum-told-4
 enum-told-4 c = search needs
 
@@ -49,14 +44,11 @@ enum-told-6 c = search needs
 slice-aggregate-matches : tie.Need-slice-aggregate-matches
 slice-aggregate-matches c = search needs
 
-sub-matches : tie.Need-sub-matches
-sub-matches c = search needs
+add-shown-at : tie.Need-add-shown-at
+add-shown-at c = omega (arith, c .before .before .before .before .before .pre (not-false (c .before .before .before .before .before .args .given) (c .before .before .before .if1 .left)), c .before .before .before .before .before .good .0)
 
-part-matches-start : tie.Need-part-matches-start
-part-matches-start c = search needs
-
-part-matches-end : tie.Need-part-matches-end
-part-matches-end c = omega (arith, c .before .before .before .before .before .pre (not-false (c .before .before .before .before .before .args .given) (c .before .before .before .if1 .left)))
+shown-at-requires : tie.Need-shown-at-requires
+shown-at-requires c κs = search needs
 
 matches-requires : tie.Need-matches-requires
 matches-requires c κs = search needs
@@ -71,7 +63,7 @@ returns-5 c = rw (c .enum-told5 .given .1, not-false (c .before .before .before 
 
 returns-6 : tie.Need-returns-6
 unfolding ccyFits
-returns-6 c = rw (c .before .before .before .enum-told6 .given .1, not-false (c .before .before .before .before .before .before .before .args .given) (c .before .before .before .before .before .if1 .left)) (c .matches .ensures ∙ ap (fits (bytes "UAH")) (three-bytes (c .before .before .before .before .before .before .before .args .s .now) (c .before .before .before .before .before .before .before .args .to)))
+returns-6 c = rw (c .before .before .before .enum-told6 .given .1, not-false (c .before .before .before .before .before .before .before .args .given) (c .before .before .before .before .before .if1 .left)) (c .matches .ensures ∙ ap (fits (bytes "UAH")) (c .before .shown-at .ensures ∙ part-there (c .before .before .before .before .before .before .before .args .s .now) (c .before .before .before .before .before .before .before .args .to + 6) 3 (omega (arith, c .before .before .before .before .before .before .before .pre (not-false (c .before .before .before .before .before .before .before .args .given) (c .before .before .before .before .before .if1 .left))))))
 
 pub ccy-fits-spec : {M : Type 1} → statement M
 ccy-fits-spec =
@@ -83,15 +75,12 @@ ccy-fits-spec =
     returns
     returns-2
     returns-3
-    add-from
-    add-end
     enum-told-4
     enum-told-5
     enum-told-6
     slice-aggregate-matches
-    sub-matches
-    part-matches-start
-    part-matches-end
+    add-shown-at
+    shown-at-requires
     matches-requires
     returns-4
     returns-5

@@ -1,7 +1,8 @@
 -- By how often the path is counted; where it stands once, by the places of its parts.
-use native.Mathlib.Omega.{arith}
+use mathlib.Core.Path.{ap, _∙_}
 use borrow.Author.Tests.{not-true, not-false}
-use Rattle.message.proofs.Held.{stands, good-missing, good-doubled, good-textless, good-there}
+use Rattle.message.specs.Good.{hasShape}
+use Rattle.message.proofs.Held.{stands, good-missing, good-doubled, good-textless, text-shown, good-there}
 use borrow.Author.Needs.{needs}
 use Rattle.message.proofs.fit.is_good.Statement.{statement}
 use Rattle.message.proofs.fit.is_good.Tie as tie
@@ -18,23 +19,20 @@ parts-at-requires c κs = search needs
 returns-3 : tie.Need-returns-3
 returns-3 c = good-textless (c .before .before .before .before .before .before .args .s .now) (c .before .before .before .before .before .before .args .count) (c .before .before .before .before .before .before .args .start) (c .before .before .parts-at .result) (c .before .before .parts-at .ensures) (c .before .before .before .if2 .left) (c .before .before .before .before .before .before .args .e .optional) (c .before .before .before .before .before .before .args .e .shape) (c .before .before .before .before .before .before .args .e .ccy) (not-true _ (c .if3 .taken))
 
+sub-shown-at : tie.Need-sub-shown-at
+sub-shown-at c = stands (c .before .before .before .before .before .before .before .args .s .now) (c .before .before .before .before .before .before .before .args .start) (c .before .before .before .parts-at .result) (c .before .before .before .parts-at .ensures) .forward
+
+shown-at-requires : tie.Need-shown-at-requires
+shown-at-requires c κs = search needs
+
 ccy-fits-requires : tie.Need-ccy-fits-requires
-ccy-fits-requires c κs = stands (c .before .before .before .before .before .before .args .s .now) (c .before .before .before .before .before .before .args .start) (c .before .before .parts-at .result) (c .before .before .parts-at .ensures) .ccy-within
-
-sub-has-shape : tie.Need-sub-has-shape
-sub-has-shape c = stands (c .before .before .before .before .before .before .before .args .s .now) (c .before .before .before .before .before .before .before .args .start) (c .before .before .before .parts-at .result) (c .before .before .before .parts-at .ensures) .forward
-
-part-has-shape-start : tie.Need-part-has-shape-start
-part-has-shape-start c = omega (arith, stands (c .before .before .before .before .before .before .before .args .s .now) (c .before .before .before .before .before .before .before .args .start) (c .before .before .before .parts-at .result) (c .before .before .before .parts-at .ensures) .forward)
-
-part-has-shape-end : tie.Need-part-has-shape-end
-part-has-shape-end c = omega (arith, stands (c .before .before .before .before .before .before .before .args .s .now) (c .before .before .before .before .before .before .before .args .start) (c .before .before .before .parts-at .result) (c .before .before .before .parts-at .ensures) .end-within)
+ccy-fits-requires c κs = stands (c .before .before .before .before .before .before .before .before .args .s .now) (c .before .before .before .before .before .before .before .before .args .start) (c .before .before .before .before .parts-at .result) (c .before .before .before .before .parts-at .ensures) .ccy-within
 
 has-shape-requires : tie.Need-has-shape-requires
 has-shape-requires c κs = search needs
 
 returns-4 : tie.Need-returns-4
-returns-4 c = good-there (c .before .before .before .before .before .before .before .before .before .args .s .now) (c .before .before .before .before .before .before .before .before .before .args .count) (c .before .before .before .before .before .before .before .before .before .args .start) (c .before .before .before .before .before .parts-at .result) (c .before .before .before .before .before .parts-at .ensures) (c .before .before .before .before .before .before .if2 .left) (c .before .before .before .before .before .before .before .before .before .args .e .optional) (c .before .before .before .before .before .before .before .before .before .args .e .shape) (c .before .before .before .before .before .before .before .before .before .args .e .ccy) (c .before .before .ccy-fits .result) (c .has-shape .result) (not-false _ (c .before .before .before .if3 .left)) (c .before .before .ccy-fits .ensures) (c .has-shape .ensures)
+returns-4 c = good-there (c .before .before .before .before .before .before .before .before .before .before .args .s .now) (c .before .before .before .before .before .before .before .before .before .before .args .count) (c .before .before .before .before .before .before .before .before .before .before .args .start) (c .before .before .before .before .before .before .parts-at .result) (c .before .before .before .before .before .before .parts-at .ensures) (c .before .before .before .before .before .before .before .if2 .left) (c .before .before .before .before .before .before .before .before .before .before .args .e .optional) (c .before .before .before .before .before .before .before .before .before .before .args .e .shape) (c .before .before .before .before .before .before .before .before .before .before .args .e .ccy) (c .before .ccy-fits .result) (c .has-shape .result) (not-false _ (c .before .before .before .before .if3 .left)) (c .before .ccy-fits .ensures) (c .has-shape .ensures ∙ ap (hasShape (c .before .before .before .before .before .before .before .before .before .before .args .e .shape)) (c .before .before .shown-at .ensures ∙ text-shown (c .before .before .before .before .before .before .before .before .before .before .args .s .now) (c .before .before .before .before .before .before .before .before .before .before .args .count) (c .before .before .before .before .before .before .before .before .before .before .args .start) (c .before .before .before .before .before .before .parts-at .result) (c .before .before .before .before .before .before .parts-at .ensures) (c .before .before .before .before .before .before .before .if2 .left)))
 
 pub is-good-spec : {M : Type 1} → statement M
 is-good-spec =
@@ -44,9 +42,8 @@ is-good-spec =
     returns-2
     parts-at-requires
     returns-3
+    sub-shown-at
+    shown-at-requires
     ccy-fits-requires
-    sub-has-shape
-    part-has-shape-start
-    part-has-shape-end
     has-shape-requires
     returns-4)

@@ -1,4 +1,5 @@
 -- What does not stand once, or has no text, has no Ccy; else the places show it.
+use mathlib.Core.Path.{_∙_}
 use native.Mathlib.Omega.{arith}
 use borrow.Author.Tests.{not-true, not-false}
 use Rattle.message.proofs.Held.{stands, ccy-elsewhere, ccy-textless, ccy-absent, ccy-there}
@@ -27,23 +28,14 @@ slice-aggregate-result-3 c = search needs
 returns-3 : tie.Need-returns-3
 returns-3 c = ccy-absent (c .before .before .before .before .before .before .before .before .args .s .now) (c .before .before .before .before .before .before .before .before .args .count) (c .before .before .before .before .before .before .before .before .args .start) (c .before .before .before .before .before .parts-at .result) (c .before .before .before .before .before .parts-at .ensures) (c .before .before .before .before .before .before .if1 .left) (not-false _ (c .before .before .before .if2 .left)) (not-true _ (c .before .if3 .taken))
 
-add-from : tie.Need-add-from
-add-from c = omega (arith, stands (c .before .before .before .before .before .before .before .before .args .s .now) (c .before .before .before .before .before .before .before .before .args .start) (c .before .before .before .before .before .parts-at .result) (c .before .before .before .before .before .parts-at .ensures) .ccy-within (not-false _ (c .before .if3 .left)), c .before .before .before .before .before .before .before .before .good .0)
+add-shown-at : tie.Need-add-shown-at
+add-shown-at c = omega (arith, stands (c .before .before .before .before .before .before .before .before .args .s .now) (c .before .before .before .before .before .before .before .before .args .start) (c .before .before .before .before .before .parts-at .result) (c .before .before .before .before .before .parts-at .ensures) .ccy-within (not-false _ (c .before .if3 .left)), c .before .before .before .before .before .before .before .before .good .0)
 
-add-end : tie.Need-add-end
-add-end c = omega (arith, stands (c .before .before .before .before .before .before .before .before .before .args .s .now) (c .before .before .before .before .before .before .before .before .before .args .start) (c .before .before .before .before .before .before .parts-at .result) (c .before .before .before .before .before .before .parts-at .ensures) .ccy-within (not-false _ (c .before .before .if3 .left)), c .before .before .before .before .before .before .before .before .before .good .0)
-
-sub-result : tie.Need-sub-result
-sub-result c = search needs
-
-part-result-start : tie.Need-part-result-start
-part-result-start c = search needs
-
-part-result-end : tie.Need-part-result-end
-part-result-end c = omega (arith, stands (c .before .before .before .before .before .before .before .before .before .args .s .now) (c .before .before .before .before .before .before .before .before .before .args .start) (c .before .before .before .before .before .before .parts-at .result) (c .before .before .before .before .before .before .parts-at .ensures) .ccy-within (not-false _ (c .before .before .if3 .left)))
+shown-at-requires : tie.Need-shown-at-requires
+shown-at-requires c κs = search needs
 
 returns-4 : tie.Need-returns-4
-returns-4 c = ccy-there (c .before .before .before .before .before .before .before .before .before .before .args .s .now) (c .before .before .before .before .before .before .before .before .before .before .args .count) (c .before .before .before .before .before .before .before .before .before .before .args .start) (c .before .before .before .before .before .before .before .parts-at .result) (c .before .before .before .before .before .before .before .parts-at .ensures) (c .before .before .before .before .before .before .before .before .if1 .left) (not-false _ (c .before .before .before .before .before .if2 .left)) (not-false _ (c .before .before .before .if3 .left))
+returns-4 c = c .shown-at .ensures ∙ ccy-there (c .before .before .before .before .before .before .before .before .before .args .s .now) (c .before .before .before .before .before .before .before .before .before .args .count) (c .before .before .before .before .before .before .before .before .before .args .start) (c .before .before .before .before .before .before .parts-at .result) (c .before .before .before .before .before .before .parts-at .ensures) (c .before .before .before .before .before .before .before .if1 .left) (not-false _ (c .before .before .before .before .if2 .left)) (not-false _ (c .before .before .if3 .left))
 
 pub ccy-of-spec : {M : Type 1} → statement M
 ccy-of-spec =
@@ -56,9 +48,6 @@ ccy-of-spec =
     returns-2
     slice-aggregate-result-3
     returns-3
-    add-from
-    add-end
-    sub-result
-    part-result-start
-    part-result-end
+    add-shown-at
+    shown-at-requires
     returns-4)

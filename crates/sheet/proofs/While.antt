@@ -1,15 +1,16 @@
 -- How many bytes in front pass a test, one byte after the other.
 -- Assumes nothing.
-use mathlib.Core.Path.{_≡_, refl, sym, ap, _∙_}
+use mathlib.Core.Path.{_≡_, refl, ap}
 use mathlib.Core.Bool.{Bool, true, false, cond}
 use mathlib.Core.List.{List, [], _∷_}
 use Prim.Native.Nat.{ℕ, suc, _+_, _-_, _≤_, _<_}
 use native.Mathlib.Omega.{arith}
 use native.Mathlib.Numerals.{add-one}
+use lib.Dec.{ltb}
+use borrow.Author.Tests.{ltb-true, ltb-false}
 use lib.ListN.{length, getD, take, drop, length-drop, drop-of-length-le}
 use lib.Seq.{drop-cons}
-use Rattle.sheet.specs.Grammar.{isNameByte}
-use Rattle.outline.specs.Rows.{while, nameAt}
+use Rattle.sheet.specs.Reader.{while}
 
 module _ (f : ℕ → Bool) (s : List ℕ) (from i : ℕ) (so-far : from + length (while f (drop from s)) ≡ i + length (while f (drop i s))) where
   pub while-goes : i < length s → f (getD s i 0) ≡ true → from + length (while f (drop from s)) ≡ i + 1 + length (while f (drop (i + 1) s))
@@ -26,6 +27,14 @@ module _ (f : ℕ → Bool) (s : List ℕ) (from i : ℕ) (so-far : from + lengt
   while-ends h =
       let here : length (while f (drop i s)) ≡ 0 = rw (drop-of-length-le s h) in
       omega arith
+
+-- where the first byte does not pass, and behind the end, there are none
+pub while-none : (f : ℕ → Bool) (s : List ℕ) (i : ℕ) → f (getD s i 0) ≡ false → i ≡ i + length (while f (drop i s))
+while-none f s i e = go (ltb i (length s)) refl
+  where
+    go : (t : Bool) → ltb i (length s) ≡ t → i ≡ i + length (while f (drop i s))
+    go true h = while-stops f s i i refl (ltb-true i (length s) h) e
+    go false h = while-ends f s i i refl (ltb-false i (length s) h)
 
 -- the bytes that pass lie within the text
 while-short : (f : ℕ → Bool) (s : List ℕ) → length (while f s) ≤ length s
@@ -47,14 +56,3 @@ take-while f (b ∷ s) = go (take-while f s) (f b)
     go : take (length (while f s)) s ≡ while f s → (t : Bool) → take (length (cond t (b ∷ while f s) [])) (b ∷ s) ≡ cond t (b ∷ while f s) []
     go e true = ap (λ (x : List ℕ). b ∷ x) e
     go e false = refl
-
--- a name as a part of the sheet: from behind its `<` to where its bytes end; behind the sheet's end there is none
-pub name-part : (s : List ℕ) (a to : ℕ) → to ≡ a + 1 + length (while isNameByte (drop (a + 1) s)) → take (to - (a + 1)) (drop (a + 1) s) ≡ nameAt s a
-unfolding nameAt
-name-part s a to e =
-    let f : to - (a + 1) ≡ length (while isNameByte (drop (a + 1) s)) = omega arith in
-    rw (f, ← add-one a) (take-while isNameByte (drop (a + 1) s))
-
-pub no-name : (s : List ℕ) (a : ℕ) → length s ≤ a → [] ≡ nameAt s a
-unfolding nameAt
-no-name s a h = let k : length s ≤ suc a = omega arith in rw (drop-of-length-le s k)

@@ -1,15 +1,15 @@
 -- Both tests together say whether the part fits, without a sum that could be too large.
 use native.Mathlib.Omega.{arith}
-use Rattle.message.proofs.Parted.{part-short, part-whole}
+use Rattle.sheet.proofs.Parted.{part-short, part-whole}
 use borrow.Author.Needs.{needs}
-use Rattle.message.proofs.parts.part.Statement.{statement}
-use Rattle.message.proofs.parts.part.Tie as tie
+use Rattle.sheet.proofs.reader.part.Statement.{statement}
+use Rattle.sheet.proofs.reader.part.Tie as tie
 
 slice-aggregate-result : tie.Need-slice-aggregate-result
 slice-aggregate-result c = search needs
 
 returns : tie.Need-returns
-returns c = part-short (c .before .before .args .s .now) (c .before .before .args .start) (c .before .before .args .length) (omega arith)
+returns c = part-short (c .before .before .args .sheet .now) (c .before .before .args .start) (c .before .before .args .length) (omega arith)
 
 sub-if2 : tie.Need-sub-if2
 sub-if2 c = search needs
@@ -18,7 +18,7 @@ slice-aggregate-result-2 : tie.Need-slice-aggregate-result-2
 slice-aggregate-result-2 c = search needs
 
 returns-2 : tie.Need-returns-2
-returns-2 c = part-short (c .before .before .before .args .s .now) (c .before .before .before .args .start) (c .before .before .before .args .length) (omega arith)
+returns-2 c = part-short (c .before .before .before .args .sheet .now) (c .before .before .before .args .start) (c .before .before .before .args .length) (omega arith)
 
 add-end : tie.Need-add-end
 add-end c = search needs
@@ -33,7 +33,7 @@ part-result-end : tie.Need-part-result-end
 part-result-end c = search needs
 
 returns-3 : tie.Need-returns-3
-returns-3 c = part-whole (c .before .before .before .args .s .now) (c .before .before .before .args .start) (c .before .before .before .args .length) (omega arith)
+returns-3 c = part-whole (c .before .before .before .args .sheet .now) (c .before .before .before .args .start) (c .before .before .before .args .length) (omega arith)
 
 pub part-spec : {M : Type 1} → statement M
 part-spec =
