@@ -15,8 +15,8 @@ use Rattle.seat.specs.declared.calls.Wish.{Wish}
 use Rattle.seat.specs.Fit.{roomFits}
 use Rattle.centre.specs.declared.Ticket.{Ticket}
 use Rattle.centre.specs.Answers.{Told, refused, isDone, behind}
-use Rattle.centre.specs.Calls.{openTold, openAfter, setTold, setAfter, readTold}
 use Rattle.centre.specs.Submit.{submitTold, submitAfter, submitSlip}
+use Rattle.centre.specs.Calls.{openTold, openAfter, setTold, setAfter, readTold}
 use Rattle.centre.proofs.First.{behind-refused}
 
 -- what is the same of all unfit directories is the same of a directory and of what was gathered of it
@@ -41,7 +41,7 @@ unfit-refused room = either (not (roomFits room))
     either false = refl
 
 -- so what it leaves is what came
-unfit-behind : {A : Type 0} (room : List ℕ) (t : Told) (made came : A) → t ≡ unfitTold room → behind t made came ≡ came
+pub unfit-behind : {A : Type 0} (room : List ℕ) (t : Told) (made came : A) → t ≡ unfitTold room → behind t made came ≡ came
 unfit-behind room t made came e = behind-refused t made came (ap isDone e ∙ unfit-refused room)
 
 -- open
@@ -96,11 +96,11 @@ module _ (ticket : Ticket) (sender today : ℕ) (sheet slip room : List ℕ) whe
   submit-unfit dir e = rw e
 
   pub submit-unfit-room : (dir : List Participant) → isFit dir ≡ false → submitAfter dir ticket sender today sheet slip room ≡ room
-  unfolding submitAfter
+  unfolding submitAfter submitTold
   submit-unfit-room dir e = unfit-behind room (submitTold dir ticket sender today sheet slip room) _ room (submit-unfit dir e)
 
   pub submit-unfit-slip : (dir : List Participant) → isFit dir ≡ false → submitSlip dir ticket sender today sheet slip room ≡ slip
-  unfolding submitSlip
+  unfolding submitSlip submitTold
   submit-unfit-slip dir e = unfit-behind room (submitTold dir ticket sender today sheet slip room) _ slip (submit-unfit dir e)
 
   pub submit-by : (g : Gathered) (dir : List Participant) → g ≡ gathered dir

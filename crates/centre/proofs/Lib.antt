@@ -4,6 +4,8 @@ pub mod Judged
 pub mod LentDirectories
 pub mod LentFits
 pub mod LentFound
+pub mod LentSheets
+pub mod LentSubmits
 pub mod LentWalks
 pub mod Listed
 pub mod Passes
@@ -13,5 +15,6 @@ pub mod RuledOutSubmit
 pub mod SeatLent
 pub mod Settled
 pub mod SlipsTold
+pub mod SubmitSought
 pub mod Submitted
 pub mod Told

@@ -9,10 +9,10 @@ use native.Mathlib.Omega.{arith}
 use native.Mathlib.Numerals.{add-one}
 use lib.Dec.{leb, ltb, eqb}
 use lib.ListN.{length, getD, take, drop}
-use borrow.Author.Tests.{eqb-false, ltb-false, not-false}
+use borrow.Author.Tests.{eqb-false, leb-true, ltb-false, not-false}
 use Rattle.shape.specs.Dates.{isDate}
 use Rattle.shape.proofs.Bits.{Small, cut-joined, joined-cut, joined-small}
-use Rattle.shape.proofs.Tests.{and-right}
+use Rattle.shape.proofs.Tests.{and-left, and-right}
 use Rattle.slip.specs.declared.Slip.{Slip}
 use Rattle.slip.specs.Meaning.{steps, isSlip}
 use Rattle.slip.specs.Image.{fieldsOf, byteWidths, values, slipNumber, image, slipIn, slipOf as slipRead}
@@ -30,7 +30,7 @@ use Rattle.journal.specs.Working.{stepped}
 use Rattle.seat.specs.Fit.{roomFits}
 use Rattle.judge.specs.declared.case.Case.{Case}
 use Rattle.judge.specs.declared.outcome.Outcome.{Outcome}
-use Rattle.judge.specs.Case.{caseOf}
+use Rattle.judge.specs.Case.{Arises, caseOf}
 use Rattle.judge.specs.Rows.{askedAfter}
 use Rattle.judge.specs.Verdict.{verdict, endOf, outcome, stepMade}
 use Rattle.centre.specs.declared.Answer.the-variants.{Done, NotTaken}
@@ -112,9 +112,9 @@ module _ (dir : List Participant) (ticket : Ticket) (sender today : ℕ) (sheet 
       ∷ rest
 
   abbrev failed : ℕ
-  failed = verdictOn dir sender today answerHere seatHere
+  failed = verdictOn (caseOf dir sender today) answerHere seatHere
 
-  pub rejects-all : verdictOn dir sender today (receivedOf sheet .answer) (seatOf room (ticket .seat)) ≡ 0
+  pub rejects-all : verdictOn (caseOf dir sender today) (receivedOf sheet .answer) (seatOf room (ticket .seat)) ≡ 0
       → (k : ℕ) → told (NotTaken k) ≡ submitTold dir ticket sender today sheet slip room → ⊥
   unfolding told submitTold notTaken
   rejects-all h k e =
@@ -136,25 +136,25 @@ module _ (dir : List Participant) (ticket : Ticket) (sender today : ℕ) (sheet 
     over = ap isDone (sym e)
 
     submit-made : submitAfter dir ticket sender today sheet slip room
-        ≡ withSeat room (ticket .seat) (stepped (stepOn dir sender today answerHere seatHere) seatHere)
-    unfolding submitAfter
+        ≡ withSeat room (ticket .seat) (stepped (stepOn (caseOf dir sender today) answerHere seatHere) seatHere)
+    unfolding submitTold submitAfter
     submit-made =
         behind-done (submitTold dir ticket sender today sheet slip room)
-        (withSeat room (ticket .seat) (stepped (stepOn dir sender today answerHere seatHere) seatHere)) room over
+        (withSeat room (ticket .seat) (stepped (stepOn (caseOf dir sender today) answerHere seatHere) seatHere)) room over
 
     pub writes-nothing : room ≡ submitAfter dir ticket sender today sheet slip room → ⊥
     writes-nothing same =
-        step-counted room (ticket .seat) (stepOn dir sender today answerHere seatHere) fit (ticket-seat ticket room (tests .1 .1 .0))
+        step-counted room (ticket .seat) (stepOn (caseOf dir sender today) answerHere seatHere) fit (ticket-seat ticket room (tests .1 .1 .0))
         (same ∙ submit-made)
 
     slip-made : submitSlip dir ticket sender today sheet slip room
-        ≡ image (slipOf ticket (suc (headOf seatHere .steps)) (stepOn dir sender today answerHere seatHere)) ++ drop 5 slip
-    unfolding submitSlip
+        ≡ image (slipOf ticket (suc (headOf seatHere .steps)) (stepOn (caseOf dir sender today) answerHere seatHere)) ++ drop 5 slip
+    unfolding submitTold submitSlip
     slip-made =
         behind-done (submitTold dir ticket sender today sheet slip room)
-        (image (slipOf ticket (suc (headOf seatHere .steps)) (stepOn dir sender today answerHere seatHere)) ++ drop 5 slip) slip over
+        (image (slipOf ticket (suc (headOf seatHere .steps)) (stepOn (caseOf dir sender today) answerHere seatHere)) ++ drop 5 slip) slip over
 
-    all-right : Passed dir ticket sender today slip room
+    all-right : Passed (isFit dir) ticket sender today slip room
     all-right = record {
       room-fit = fit;
       directory-fit = not-false (isFit dir) (tests .1 .0);
@@ -173,27 +173,38 @@ module _ (dir : List Participant) (ticket : Ticket) (sender today : ℕ) (sheet 
       unfolding notTaken verdictOn
       not-refused = rw f at (tests .1 .1 .1 .1 .1 .1 .1 .1 .0)
 
+      arises : Arises caseHere
+      unfolding caseOf
+      arises = record {
+        sheet = sheet;
+        dir = dir;
+        good = f;
+        fit = all-right .directory-fit;
+        code = leb-true sender codeMost (and-left (leb sender codeMost) (isDate today) (all-right .numbers-right));
+        looked = refl;
+      }
+
       can-write : canWrite (slipOf ticket (headOf seatHere .steps + 1) (stepMade caseHere (outcome caseHere seatHere))) slip ≡ true
       unfolding outcome
       can-write =
           let c : Case = caseHere in
           let s : List ℕ = seatHere in
-          let can = can-judge all-right sheet m f c refl s refl in
+          let can = can-judge all-right (caseOf dir sender today) answerHere m f arises c refl s refl in
           let o : Outcome = endOf (c .message .kind) (verdict c s) (askedAfter c s) in
           slip-asks ticket c s slip (verdict c s) refl not-refused o refl (stepMade c o) refl (headOf s) refl (can .0) (can .1) (can .3) (can .5)
           (can .2) (can .4)
 
-      right-slip : isSlip (slipOf ticket (suc (headOf seatHere .steps)) (stepOn dir sender today answerHere seatHere)) ≡ true
+      right-slip : isSlip (slipOf ticket (suc (headOf seatHere .steps)) (stepOn (caseOf dir sender today) answerHere seatHere)) ≡ true
       unfolding canWrite stepOn
       right-slip =
           rw (f, ← add-one (headOf seatHere .steps))
           (and-right (leb 5 (length slip)) (isSlip (slipOf ticket (headOf seatHere .steps + 1) (stepMade caseHere (outcome caseHere seatHere)))) can-write)
 
     pub invented-step-number : (n : ℕ) → (n ≡ suc (headOf seatHere .steps) → ⊥)
-        → image (slipOf ticket n (stepOn dir sender today answerHere seatHere)) ++ drop 5 slip ≡ submitSlip dir ticket sender today sheet slip room
+        → image (slipOf ticket n (stepOn (caseOf dir sender today) answerHere seatHere)) ++ drop 5 slip ≡ submitSlip dir ticket sender today sheet slip room
         → n ≤ steps → ⊥
     invented-step-number n h written low =
         good-message answerHere (tests .1 .1 .1 .1 .1 .1 .0) (tests .1 .1 .1 .1 .1 .1 .1 .0)
         (λ (m : Message) (f : answerHere ≡ Good m).
-        h (same-number ticket (suc (headOf seatHere .steps)) n (stepOn dir sender today answerHere seatHere) (drop 5 slip) (right-slip m f) low
+        h (same-number ticket (suc (headOf seatHere .steps)) n (stepOn (caseOf dir sender today) answerHere seatHere) (drop 5 slip) (right-slip m f) low
         (written ∙ slip-made)))

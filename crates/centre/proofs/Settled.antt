@@ -30,6 +30,10 @@ use Rattle.centre.proofs.calls.read_found.Kinds as read-found-kinds
 use Rattle.centre.proofs.calls.read_found.Reads as read-found-reads
 use Rattle.centre.proofs.calls.read_among.Kinds as read-among-kinds
 use Rattle.centre.proofs.calls.read_among.Reads as read-among-reads
+use Rattle.centre.proofs.submit.received_in.Kinds as received-in-kinds
+use Rattle.centre.proofs.submit.received_in.Reads as received-in-reads
+use Rattle.centre.proofs.submit.submit_found.Kinds as submit-found-kinds
+use Rattle.centre.proofs.submit.submit_found.Reads as submit-found-reads
 use Rattle.centre.proofs.submit.submit_among.Kinds as submit-among-kinds
 use Rattle.centre.proofs.submit.submit_among.Reads as submit-among-reads
 use Rattle.centre.proofs.slips.write_slip.Kinds as write-slip-kinds
@@ -71,6 +75,14 @@ read-among κs a x y e f = by-told x y
 -- the room and the buffer at exit are both settled
 two : {A B : Type 0} {u v : A} {w z : B} → u ≡ v → w ≡ z → _≡_ {A = A × B} (u, w) (v, z)
 two e f = rw (e, f)
+
+pub received-in : Settled _ received-in-kinds.ps received-in-kinds.r received-in-reads.Post
+received-in κs a x y e f = by-equation
+
+pub submit-found : SettledWith _ submit-found-kinds.ps submit-found-kinds.r submit-found-reads.Post (List ℕ × List ℕ)
+    (λ κs e. (now (e .0), now (e .1 .1 .1 .1 .1 .1 .1 .0)))
+submit-found κs a x y e f p q =
+    (by-told x y (p .0) (q .0), two (by-equation (p .1 .0) (q .1 .0)) (by-equation (p .1 .1) (q .1 .1)))
 
 pub submit-among : SettledWith _ submit-among-kinds.ps submit-among-kinds.r submit-among-reads.Post (List ℕ × List ℕ)
     (λ κs e. (now (e .0), now (e .1 .1 .1 .1 .1 .1 .0)))

@@ -4,20 +4,19 @@
 use mathlib.Core.Path.{_≡_, refl, sym, ap, _∙_}
 use mathlib.Core.Bool.{Bool, true, false, _&&_, _||_, not, cond, false≢true}
 use mathlib.Core.List.{List, _++_}
-use Prim.Native.Nat.{ℕ, _+_, _-_, _*_, _<_, _≤_}
+use Prim.Native.Nat.{ℕ, suc, _+_, _-_, _*_, _<_, _≤_}
 use native.Mathlib.Omega.{arith}
 use native.Mathlib.Nat.{lt-of-not-le}
 use lib.Dec.{leb, ltb, eqb}
 use lib.ListN.{length, take, drop}
-use borrow.Author.Tests.{eq-eqb, ne-eqb, lt-ltb, le-ltb, leb-true, leb-false, lt-leb, le-leb, not-true, not-false}
+use borrow.Author.Tests.{eq-eqb, ne-eqb, lt-ltb, le-ltb, leb-false, lt-leb, le-leb, not-true, not-false}
 use Rattle.shape.specs.Dates.{isDate}
-use Rattle.shape.proofs.Tests.{and-left}
 use Rattle.slip.specs.Meaning.{seats, steps}
+use Rattle.slip.specs.Image.{image}
 use Rattle.message.specs.declared.Message.{Message}
+use Rattle.message.specs.declared.Answer.{Answer as Received}
 use Rattle.message.specs.declared.Answer.the-variants as message
-use Rattle.message.specs.Received.{receivedOf}
-use Rattle.directory.specs.declared.Participant.{Participant}
-use Rattle.directory.specs.Directory.{codeMost, isFit}
+use Rattle.directory.specs.Directory.{codeMost}
 use Rattle.layout.specs.Seat.{headOf, seatOf, withSeat}
 use Rattle.layout.proofs.Parts.{given-back}
 use Rattle.layout.proofs.Rooms.{seat-same}
@@ -29,7 +28,7 @@ use Rattle.seat.proofs.Forward.{open-fits}
 use Rattle.seat.proofs.Kept.{fit-open}
 use Rattle.seat.proofs.Rooms.{room-long, room-seat}
 use Rattle.judge.specs.declared.case.Case.{Case}
-use Rattle.judge.specs.Case.{Arises, caseOf}
+use Rattle.judge.specs.Case.{Arises}
 use Rattle.judge.specs.Verdict.{outcome, stepMade}
 use Rattle.judge.proofs.Verdicts.{or-neither}
 use Rattle.centre.specs.declared.Answer.{Answer}
@@ -37,7 +36,8 @@ use Rattle.centre.specs.declared.Answer.the-variants.{RoomUnfit, Directo
 use Rattle.centre.specs.declared.Ticket.{Ticket}
 use Rattle.centre.specs.Answers.{Told, told, isDone, behind}
 use Rattle.centre.specs.Calls.{noSeat, ticketBad}
-use Rattle.centre.specs.Submit.{verdictOn, stepOn, judgedTold, judgedAfter, judgedSlip, submitTold, submitAfter, submitSlip}
+use Rattle.centre.specs.Submit.{verdictOn, stepOn, slipOf, judgedTold, judgedAfter, judgedSlip, submitBy, submitLeft, submitWritten}
+use Rattle.centre.proofs.First.{behind-refused}
 
 -- a ticket for no seat, and one for a seat
 module _ (ticket : Ticket) (room : List ℕ) where
@@ -87,144 +87,141 @@ numbers-bad sender today r e n = rw (← e) (not-true (leb sender codeMost && r)
 pub numbers-good : (sender today : ℕ) (r : Bool) → r ≡ isDate today → not (leb sender codeMost && r) ≡ false → (leb sender codeMost && isDate today) ≡ true
 numbers-good sender today r e n = rw (← e) (not-false (leb sender codeMost && r) n)
 
-module _ (dir : List Participant) (ticket : Ticket) (sender today : ℕ) (sheet slip room : List ℕ) where
+module _ (fit : Bool) (cases : Message → Case) (ticket : Ticket) (sender today : ℕ) (received : Received) (slip room : List ℕ) where
   -- an answer, the room and the buffer behind it are those of submit
   abbrev pub Submits : Answer → List ℕ → List ℕ → Type 0
   Submits a after left =
-      (told a ≡ submitTold dir ticket sender today sheet slip room)
-      × ((after ≡ submitAfter dir ticket sender today sheet slip room) × (left ≡ submitSlip dir ticket sender today sheet slip room))
+      (told a ≡ submitBy fit cases ticket sender today received slip room)
+      × ((after ≡ submitLeft fit cases ticket sender today received slip room) × (left ≡ submitWritten fit cases ticket sender today received slip room))
 
   -- a refusal leaves both as they came
-  stays : (a : Answer) → isDone (told a) ≡ false → told a ≡ submitTold dir ticket sender today sheet slip room → Submits a room slip
-  unfolding submitAfter submitSlip behind
-  stays a n e = (e, (rw (← e, n), rw (← e, n)))
+  stays : (a : Answer) → isDone (told a) ≡ false → told a ≡ submitBy fit cases ticket sender today received slip room → Submits a room slip
+  stays a n e =
+      let over : isDone (submitBy fit cases ticket sender today received slip room) ≡ false = ap isDone (sym e) ∙ n in (
+        e,
+        (
+          sym (behind-refused (submitBy fit cases ticket sender today received slip room) _ room over),
+          sym (behind-refused (submitBy fit cases ticket sender today received slip room) _ slip over),
+        ),
+      )
 
   pub room-unfit : roomFits room ≡ false → Submits RoomUnfit room slip
-  unfolding submitTold told isDone
+  unfolding told isDone
   room-unfit f = stays RoomUnfit refl (rw f)
 
   module _ (a : roomFits room ≡ true) where
-    pub directory-unfit : isFit dir ≡ false → Submits DirectoryUnfit room slip
-    unfolding submitTold told isDone
+    pub directory-unfit : fit ≡ false → Submits DirectoryUnfit room slip
+    unfolding told isDone
     directory-unfit f = stays DirectoryUnfit refl (rw (a, f))
 
-    module _ (b : isFit dir ≡ true) where
+    module _ (b : fit ≡ true) where
       pub no-ticket : ticketBad ticket room ≡ true → Submits NoTicket room slip
-      unfolding submitTold told isDone
+      unfolding told isDone
       no-ticket f = stays NoTicket refl (rw (a, b, f))
 
       module _ (t : ticketBad ticket room ≡ false) where
         pub bad-number : (leb sender codeMost && isDate today) ≡ false → Submits BadNumber room slip
-        unfolding submitTold told isDone
+        unfolding told isDone
         bad-number f = stays BadNumber refl (rw (a, b, t, f))
 
         module _ (n : (leb sender codeMost && isDate today) ≡ true) where
           pub no-slip : length slip < 5 → Submits NoSlip room slip
-          unfolding submitTold told isDone
+          unfolding told isDone
           no-slip f = stays NoSlip refl (rw (a, b, t, n, lt-ltb (length slip) 5 f))
 
           module _ (l : 5 ≤ length slip) where
             pub journal-full : headOf (seatOf room (ticket .seat)) .steps ≡ steps → Submits JournalFull room slip
-            unfolding submitTold told isDone
+            unfolding told isDone
             journal-full f =
                 stays JournalFull refl
                 (rw (a, b, t, n, le-ltb (length slip) 5 l, eq-eqb (headOf (seatOf room (ticket .seat)) .steps) steps f))
 
 -- the first six refusals are passed
-pub record Passed (dir : List Participant) (ticket : Ticket) (sender today : ℕ) (slip room : List ℕ) : Type 0 where
+pub record Passed (fit : Bool) (ticket : Ticket) (sender today : ℕ) (slip room : List ℕ) : Type 0 where
   pub room-fit : roomFits room ≡ true
-  pub directory-fit : isFit dir ≡ true
+  pub directory-fit : fit ≡ true
   pub ticket-right : ticketBad ticket room ≡ false
   pub numbers-right : (leb sender codeMost && isDate today) ≡ true
   pub slip-long : 5 ≤ length slip
   pub steps-left : headOf (seatOf room (ticket .seat)) .steps ≡ steps → ⊥
 
-module _ {dir : List Participant} {ticket : Ticket} {sender today : ℕ} {slip room : List ℕ}
-    (p : Passed dir ticket sender today slip room) (sheet : List ℕ) where
+module _ {fit : Bool} {ticket : Ticket} {sender today : ℕ} {slip room : List ℕ}
+    (p : Passed fit ticket sender today slip room) (cases : Message → Case) (received : Received) where
   slip-enough : ltb (length slip) 5 ≡ false
   slip-enough = le-ltb (length slip) 5 (p .slip-long)
 
   steps-apart : eqb (headOf (seatOf room (ticket .seat)) .steps) steps ≡ false
   steps-apart = ne-eqb (headOf (seatOf room (ticket .seat)) .steps) steps (p .steps-left)
 
-  pub ill-formed : (place : ℕ) → receivedOf sheet .answer ≡ message.IllFormed place → Submits dir ticket sender today sheet slip room (IllFormed place) room slip
-  unfolding submitTold told isDone
+  pub ill-formed : (place : ℕ) → received ≡ message.IllFormed place → Submits fit cases ticket sender today received slip room (IllFormed place) room slip
+  unfolding told isDone
   ill-formed place f =
-      stays dir ticket sender today sheet slip room (IllFormed place) refl
+      stays fit cases ticket sender today received slip room (IllFormed place) refl
       (rw (p .room-fit, p .directory-fit, p .ticket-right, p .numbers-right, slip-enough, steps-apart, f))
 
-  pub bad-field : (number : ℕ) → receivedOf sheet .answer ≡ message.BadField number → Submits dir ticket sender today sheet slip room (BadField number) room slip
-  unfolding submitTold told isDone
+  pub bad-field : (number : ℕ) → received ≡ message.BadField number → Submits fit cases ticket sender today received slip room (BadField number) room slip
+  unfolding told isDone
   bad-field number f =
-      stays dir ticket sender today sheet slip room (BadField number) refl
+      stays fit cases ticket sender today received slip room (BadField number) refl
       (rw (p .room-fit, p .directory-fit, p .ticket-right, p .numbers-right, slip-enough, steps-apart, f))
 
   -- a message, judged in its seat
-  module _ (m : Message) (f : receivedOf sheet .answer ≡ message.Good m) where
-    judged-told : judgedTold (caseOf dir sender today m) (seatOf room (ticket .seat)) ≡ submitTold dir ticket sender today sheet slip room
-    unfolding submitTold judgedTold verdictOn
+  module _ (m : Message) (f : received ≡ message.Good m) where
+    abbrev here : List ℕ
+    here = seatOf room (ticket .seat)
+
+    judged-told : judgedTold (cases m) here ≡ submitBy fit cases ticket sender today received slip room
+    unfolding judgedTold verdictOn
     judged-told =
         rw (p .room-fit, p .directory-fit, p .ticket-right, p .numbers-right, slip-enough, steps-apart, f)
 
-    judged-after : withSeat room (ticket .seat) (judgedAfter (caseOf dir sender today m) (seatOf room (ticket .seat)))
-        ≡ submitAfter dir ticket sender today sheet slip room
-    unfolding submitAfter judgedAfter stepOn
+    judged-after : withSeat room (ticket .seat) (judgedAfter (cases m) here) ≡ submitLeft fit cases ticket sender today received slip room
+    unfolding judgedAfter stepOn
     judged-after =
-        behind-seat room (ticket .seat) (stepped (stepMade (caseOf dir sender today m) (outcome (caseOf dir sender today m) (seatOf room (ticket .seat)))) (seatOf room (ticket .seat)))
-        (seatOf room (ticket .seat)) (judgedTold (caseOf dir sender today m) (seatOf room (ticket .seat)))
+        behind-seat room (ticket .seat) (stepped (stepMade (cases m) (outcome (cases m) here)) here) here (judgedTold (cases m) here)
         (seat-same room (ticket .seat) (room-long room (p .room-fit)) (ticket-seat ticket room (p .ticket-right)))
-        ∙ rw (judged-told, f)
+        ∙ ap (λ (t : Told). behind t (withSeat room (ticket .seat) (stepped (stepMade (cases m) (outcome (cases m) here)) here)) room) judged-told
+        ∙ ap (λ (a : Received). behind (submitBy fit cases ticket sender today received slip room) (withSeat room (ticket .seat) (stepped (stepOn cases a here) here)) room) (sym f)
 
-    judged-slip : judgedSlip ticket (caseOf dir sender today m) (seatOf room (ticket .seat)) slip
-        ≡ submitSlip dir ticket sender today sheet slip room
-    unfolding submitSlip judgedSlip stepOn
-    judged-slip = rw (judged-told, f)
+    judged-slip : judgedSlip ticket (cases m) here slip ≡ submitWritten fit cases ticket sender today received slip room
+    unfolding judgedSlip stepOn
+    judged-slip =
+        ap (λ (t : Told). behind t (image (slipOf ticket (suc (headOf here .steps)) (stepMade (cases m) (outcome (cases m) here))) ++ drop 5 slip) slip) judged-told
+        ∙ ap (λ (a : Received). behind (submitBy fit cases ticket sender today received slip room) (image (slipOf ticket (suc (headOf here .steps)) (stepOn cases a here)) ++ drop 5 slip) slip) (sym f)
 
-    -- what judging needs of the message and of the seat
-    arises : Arises (caseOf dir sender today m)
-    unfolding caseOf
-    arises = record {
-      sheet = sheet;
-      dir = dir;
-      good = f;
-      fit = p .directory-fit;
-      code = leb-true sender codeMost (and-left (leb sender codeMost) (isDate today) (p .numbers-right));
-      looked = refl;
-    }
-
-    seat-fits : seatFits (seatOf room (ticket .seat)) ≡ true
+    seat-fits : seatFits here ≡ true
     seat-fits = room-seat room (p .room-fit) (ticket .seat) (ticket-seat ticket room (p .ticket-right))
 
-    steps-few : headOf (seatOf room (ticket .seat)) .steps < steps
+    steps-few : headOf here .steps < steps
     steps-few =
-        let opened : headOf (seatOf room (ticket .seat)) .opened ≡ 1 =
-        ticket-good (ticket .opening) (seatOf room (ticket .seat)) (ticket-fits ticket room (p .ticket-right)) .0 in
-        let most : headOf (seatOf room (ticket .seat)) .steps ≤ steps =
-        open-fits (seatOf room (ticket .seat)) (fit-open (seatOf room (ticket .seat)) seat-fits opened) .count in
-        lt-of-not-le (λ (h : steps ≤ headOf (seatOf room (ticket .seat)) .steps). p .steps-left (omega arith))
+        let opened : headOf here .opened ≡ 1 = ticket-good (ticket .opening) here (ticket-fits ticket room (p .ticket-right)) .0 in
+        let most : headOf here .steps ≤ steps = open-fits here (fit-open here seat-fits opened) .count in
+        lt-of-not-le (λ (h : steps ≤ headOf here .steps). p .steps-left (omega arith))
 
-    seat-judged : (seatFits (seatOf room (ticket .seat)) ≡ true)
-        × (noTicket (ticket .opening) (seatOf room (ticket .seat)) ≡ false)
+    -- what judging needs of the message and of the seat
+    seat-judged : Arises (cases m)
+        → (seatFits here ≡ true)
+        × (noTicket (ticket .opening) here ≡ false)
         × (ticket .seat < seats)
-        × (headOf (seatOf room (ticket .seat)) .steps < steps)
+        × (headOf here .steps < steps)
         × (5 ≤ length slip)
-        × Arises (caseOf dir sender today m)
-    seat-judged = (seat-fits, ticket-fits ticket room (p .ticket-right), ticket-seat ticket room (p .ticket-right), steps-few, p .slip-long, arises)
+        × Arises (cases m)
+    seat-judged arises = (seat-fits, ticket-fits ticket room (p .ticket-right), ticket-seat ticket room (p .ticket-right), steps-few, p .slip-long, arises)
 
-    pub can-judge : (c : Case) → c ≡ caseOf dir sender today m → (s : List ℕ) → s ≡ seatOf room (ticket .seat)
+    pub can-judge : Arises (cases m) → (c : Case) → c ≡ cases m → (s : List ℕ) → s ≡ here
         → (seatFits s ≡ true)
         × (noTicket (ticket .opening) s ≡ false)
         × (ticket .seat < seats)
         × (headOf s .steps < steps)
         × (5 ≤ length slip)
         × Arises c
-    can-judge c e s q = rw (e, q) seat-judged
+    can-judge arises c e s q = rw (e, q) (seat-judged arises)
 
     -- the answer, what the seat is put back as, and the buffer
-    pub judged : (c : Case) → c ≡ caseOf dir sender today m → (s : List ℕ) → s ≡ seatOf room (ticket .seat)
+    pub judged : (c : Case) → c ≡ cases m → (s : List ℕ) → s ≡ here
         → (r : Answer) → told r ≡ judgedTold c s → (made : List ℕ) → made ≡ judgedAfter c s
         → (after : List ℕ) → after ≡ withSeat room (ticket .seat) made
-        → (left : List ℕ) → left ≡ judgedSlip ticket c s slip → Submits dir ticket sender today sheet slip room r after left
+        → (left : List ℕ) → left ≡ judgedSlip ticket c s slip → Submits fit cases ticket sender today received slip room r after left
     judged c e s q r x made y after z left w = (
       x ∙ rw (e, q) judged-told,
       (z ∙ ap (withSeat room (ticket .seat)) y ∙ rw (e, q) judged-after, w ∙ rw (e, q) judged-slip),

@@ -1,7 +1,8 @@
 -- Submit: a message of a sender, on a date, as a sheet. Document 01, "Calls and refusals", "The checks", "The slip". A message that passes refusal
 -- 12 is one step, carried out or not, and its slip stands in the first five bytes of the buffer.
-use mathlib.Core.Bool.{Bool, not, _&&_, _||_}
+use mathlib.Core.Bool.{Bool, true, not, _&&_, _||_}
 use mathlib.Core.List.{List, [], _∷_, _++_}
+use mathlib.Core.Path.{_≡_}
 use Prim.Native.Nat.{ℕ, suc}
 use lib.Dec.{leb, ltb, eqb}
 use lib.ListN.{length, drop}
@@ -9,6 +10,7 @@ use Rattle.shape.specs.Dates.{isDate}
 use Rattle.slip.specs.declared.Slip.{Slip}
 use Rattle.slip.specs.Meaning.{steps, kindNumber}
 use Rattle.slip.specs.Image.{image}
+use Rattle.message.specs.declared.Message.{Message}
 use Rattle.message.specs.declared.Answer.{Answer}
 use Rattle.message.specs.declared.Answer.the-variants.{IllFormed, BadField, Good}
 use Rattle.message.specs.Received.{numberOf, receivedOf}
@@ -20,27 +22,28 @@ use Rattle.journal.specs.Steps.{noStep}
 use Rattle.journal.specs.Working.{stepped}
 use Rattle.seat.specs.Fit.{roomFits}
 use Rattle.judge.specs.declared.case.Case.{Case}
-use Rattle.judge.specs.Case.{caseOf}
+use Rattle.judge.specs.declared.case.Looked.{Looked}
+use Rattle.judge.specs.Case.{lookedUp, caseOf}
 use Rattle.judge.specs.Verdict.{verdict, outcome, stepMade}
 use Rattle.centre.specs.declared.Ticket.{Ticket}
 use Rattle.centre.specs.Answers.{Told, done, refused, refusedWith, first, behind}
 use Rattle.centre.specs.Calls.{ticketBad}
 
--- the check that the message of a sheet fails by in a seat; 0 where the sheet is no message
-unfoldable pub verdictOn : List Participant → ℕ → ℕ → Answer → List ℕ → ℕ
-verdictOn dir sender today (Good m) s = verdict (caseOf dir sender today m) s
-verdictOn dir sender today (IllFormed place) s = 0
-verdictOn dir sender today (BadField number) s = 0
+-- the check that the message of a sheet fails by in a seat, by the case that it is; 0 where the sheet is no message
+unfoldable pub verdictOn : (Message → Case) → Answer → List ℕ → ℕ
+verdictOn cases (Good m) s = verdict (cases m) s
+verdictOn cases (IllFormed place) s = 0
+verdictOn cases (BadField number) s = 0
 
 -- 12: it fails check 1 or 2
 unfoldable pub notTaken : ℕ → Bool
 notTaken check = eqb check 1 || eqb check 2
 
 -- the step that it is
-unfoldable pub stepOn : List Participant → ℕ → ℕ → Answer → List ℕ → Step
-stepOn dir sender today (Good m) s = stepMade (caseOf dir sender today m) (outcome (caseOf dir sender today m) s)
-stepOn dir sender today (IllFormed place) s = noStep
-stepOn dir sender today (BadField number) s = noStep
+unfoldable pub stepOn : (Message → Case) → Answer → List ℕ → Step
+stepOn cases (Good m) s = stepMade (cases m) (outcome (cases m) s)
+stepOn cases (IllFormed place) s = noStep
+stepOn cases (BadField number) s = noStep
 
 -- the slip of a step: its kind, status and check, with its seat, opening and number
 unfoldable pub slipOf : Ticket → ℕ → Step → Slip
@@ -64,32 +67,52 @@ unfoldable pub judgedSlip : Ticket → Case → List ℕ → List ℕ → List �
 judgedSlip ticket c s slip =
     behind (judgedTold c s) (image (slipOf ticket (suc (headOf s .steps)) (stepMade c (outcome c s))) ++ drop 5 slip) slip
 
-unfoldable pub submitTold : List Participant → Ticket → ℕ → ℕ → List ℕ → List ℕ → List ℕ → Told
-submitTold dir ticket sender today sheet slip room =
+-- submit what a sheet was received as. Of the directory it matters whether it is fit and what case a message is by it
+abbrev pub submitBy : Bool → (Message → Case) → Ticket → ℕ → ℕ → Answer → List ℕ → List ℕ → Told
+submitBy fit cases ticket sender today received slip room =
     let s : List ℕ = seatOf room (ticket .seat) in
-    let received : Answer = receivedOf sheet .answer in
     first (
     (not (roomFits room), refused 1)
-    ∷ (not (isFit dir), refused 2)
+    ∷ (not fit, refused 2)
     ∷ (ticketBad ticket room, refused 3)
     ∷ (not (leb sender codeMost && isDate today), refused 6)
     ∷ (ltb (length slip) 5, refused 11)
     ∷ (eqb (headOf s .steps) steps, refused 9)
     ∷ (eqb (numberOf received .0) 7, refusedWith 7 (numberOf received .1))
     ∷ (eqb (numberOf received .0) 8, refusedWith 8 (numberOf received .1))
-    ∷ (notTaken (verdictOn dir sender today received s), refusedWith 12 (verdictOn dir sender today received s))
+    ∷ (notTaken (verdictOn cases received s), refusedWith 12 (verdictOn cases received s))
     ∷ []) (done [])
 
+unfoldable pub submitTold : List Participant → Ticket → ℕ → ℕ → List ℕ → List ℕ → List ℕ → Told
+submitTold dir ticket sender today sheet slip room =
+    submitBy (isFit dir) (caseOf dir sender today) ticket sender today (receivedOf sheet .answer) slip room
+
 -- the room behind it: one step more in the seat
+abbrev pub submitLeft : Bool → (Message → Case) → Ticket → ℕ → ℕ → Answer → List ℕ → List ℕ → List ℕ
+submitLeft fit cases ticket sender today received slip room =
+    let s : List ℕ = seatOf room (ticket .seat) in
+    behind (submitBy fit cases ticket sender today received slip room)
+    (withSeat room (ticket .seat) (stepped (stepOn cases received s) s)) room
+
 unfoldable pub submitAfter : List Participant → Ticket → ℕ → ℕ → List ℕ → List ℕ → List ℕ → List ℕ
 submitAfter dir ticket sender today sheet slip room =
-    let s : List ℕ = seatOf room (ticket .seat) in
-    behind (submitTold dir ticket sender today sheet slip room)
-    (withSeat room (ticket .seat) (stepped (stepOn dir sender today (receivedOf sheet .answer) s) s)) room
+    submitLeft (isFit dir) (caseOf dir sender today) ticket sender today (receivedOf sheet .answer) slip room
 
 -- the buffer behind it: the slip in the first five bytes, the rest as it was
+abbrev pub submitWritten : Bool → (Message → Case) → Ticket → ℕ → ℕ → Answer → List ℕ → List ℕ → List ℕ
+submitWritten fit cases ticket sender today received slip room =
+    let s : List ℕ = seatOf room (ticket .seat) in
+    behind (submitBy fit cases ticket sender today received slip room)
+    (image (slipOf ticket (suc (headOf s .steps)) (stepOn cases received s)) ++ drop 5 slip) slip
+
 unfoldable pub submitSlip : List Participant → Ticket → ℕ → ℕ → List ℕ → List ℕ → List ℕ → List ℕ
 submitSlip dir ticket sender today sheet slip room =
-    let s : List ℕ = seatOf room (ticket .seat) in
-    behind (submitTold dir ticket sender today sheet slip room)
-    (image (slipOf ticket (suc (headOf s .steps)) (stepOn dir sender today (receivedOf sheet .answer) s)) ++ drop 5 slip) slip
+    submitWritten (isFit dir) (caseOf dir sender today) ticket sender today (receivedOf sheet .answer) slip room
+
+-- what was looked up for what a sheet was received as, and whether the directory is fit: all by one directory and one sheet
+pub record Sought (fit : Bool) (looked : Looked) (sender : ℕ) (received : Answer) : Type 0 where
+  pub dir : List Participant
+  pub sheet : List ℕ
+  pub fitness : fit ≡ isFit dir
+  pub reading : received ≡ receivedOf sheet .answer
+  pub finding : fit ≡ true → (m : Message) → received ≡ Good m → looked ≡ lookedUp dir sender m

@@ -1,15 +1,18 @@
-// The calls that take a directory, as a lent slice of participants. Each is straight-line: thin functions of `directory` go through the slice
-// (`gather` once, `find` for an owner), and a covered call does the rest. The definitions are the same.
+// The calls that take a directory, as a lent slice of participants. Each is straight-line: thin functions go through the slice (`gather` once,
+// `find` for an owner, `look_up` for what a message asks), and a covered call does the rest. The definitions are the same.
 use crate::Answer;
 use crate::Ticket;
 use crate::calls::open_among;
 use crate::calls::read_found;
 use crate::calls::set_found;
-use crate::submit::submit_among;
+use crate::submit::received_in;
+use crate::submit::submit_found;
 use directory::Participant;
 use directory::find;
 use directory::fits;
 use directory::gather;
+use judge::asked_in;
+use judge::look_up;
 use seat::Wish;
 ghost use mathlib.Core.Path.{_≡_};
 ghost use Rattle.centre.specs.Answers.{told};
@@ -57,8 +60,12 @@ pub fn submit_sheet(
     ensures { λ _. ⌜ now (room .exit) ≡ submitAfter (now (dir .entry)) ticket sender today (now (sheet .entry)) (now (slip .entry)) (now (room .entry)) ⌝ }
     ensures { λ _. ⌜ now (slip .exit) ≡ submitSlip (now (dir .entry)) ticket sender today (now (sheet .entry)) (now (slip .entry)) (now (room .entry)) ⌝ }
 {
+    let received = received_in(sheet);
     let g = gather(dir);
-    submit_among(room, g, ticket, sender, today, sheet, slip)
+    let fit = fits(g);
+    let asked = asked_in(received);
+    let looked = look_up(dir, sender, asked);
+    submit_found(room, fit, looked, ticket, sender, today, received, slip)
 }
 
 // Reads all that an account holds.

@@ -6,9 +6,12 @@ use directory::Gathered;
 use directory::fits;
 use journal::append;
 use judge::Case;
-use judge::case_of;
+use judge::Looked;
+use judge::asked_in;
+use judge::case_from;
 use judge::end_of;
 use judge::first_failing;
+use judge::look_among;
 use judge::step_of;
 use layout::SEAT_LONG;
 use layout::head;
@@ -29,14 +32,15 @@ ghost use lib.ListN.{length, drop};
 ghost use Rattle.slip.specs.Meaning.{seats, steps};
 ghost use Rattle.slip.specs.Image.{image};
 ghost use Rattle.slip.specs.Answers.{canWrite};
+ghost use Rattle.message.specs.Received.{receivedOf};
 ghost use Rattle.directory.specs.Gathering.{directoryIn};
 ghost use Rattle.layout.specs.Seat.{roomLong, headOf, seatOf};
 ghost use Rattle.seat.specs.Calls.{noTicket};
 ghost use Rattle.seat.specs.Fit.{seatFits};
-ghost use Rattle.judge.specs.Case.{Arises};
+ghost use Rattle.judge.specs.Case.{Arises, caseFrom};
 ghost use Rattle.centre.specs.Answers.{told};
 ghost use Rattle.centre.specs.Calls.{ticketBad};
-ghost use Rattle.centre.specs.Submit.{judgedTold, judgedAfter, judgedSlip, slipOf, submitTold, submitAfter, submitSlip};
+ghost use Rattle.centre.specs.Submit.{judgedTold, judgedAfter, judgedSlip, slipOf, Sought, submitBy, submitLeft, submitWritten, submitTold, submitAfter, submitSlip};
 
 // Whether a ticket is for no seat, or its seat is closed or was opened with another number.
 fn ticket_bad(room: &[u64], ticket: Ticket) -> bool
@@ -98,24 +102,35 @@ fn judge_in(s: &mut [u64], ticket: Ticket, c: Case, slip: &mut [u8]) -> Answer
     Answer::Done
 }
 
-// Submits a sheet for a sender on a date.
-pub fn submit_among(
+// What a sheet is received as.
+pub fn received_in(sheet: &[u8]) -> message::Answer
+    ensures { λ r. ⌜ r ≡ receivedOf (now (sheet .entry)) .answer ⌝ }
+{
+    let received = receive(sheet);
+    let answer = received.answer;
+    answer
+}
+
+// Submits what a sheet was received as, for a sender on a date, by what was looked up in a directory that is fit or not.
+pub fn submit_found(
     room: &mut [u64],
-    g: Gathered,
+    fit: bool,
+    looked: Looked,
     ticket: Ticket,
     sender: u64,
     today: u64,
-    sheet: &[u8],
+    received: message::Answer,
     slip: &mut [u8],
 ) -> Answer
-    ensures { λ r. ⌜ told r ≡ submitTold (directoryIn g) ticket sender today (now (sheet .entry)) (now (slip .entry)) (now (room .entry)) ⌝ }
-    ensures { λ _. ⌜ now (room .exit) ≡ submitAfter (directoryIn g) ticket sender today (now (sheet .entry)) (now (slip .entry)) (now (room .entry)) ⌝ }
-    ensures { λ _. ⌜ now (slip .exit) ≡ submitSlip (directoryIn g) ticket sender today (now (sheet .entry)) (now (slip .entry)) (now (room .entry)) ⌝ }
+    requires { ⌜ Sought fit looked sender received ⌝ }
+    ensures { λ r. ⌜ told r ≡ submitBy fit (caseFrom looked sender today) ticket sender today received (now (slip .entry)) (now (room .entry)) ⌝ }
+    ensures { λ _. ⌜ now (room .exit) ≡ submitLeft fit (caseFrom looked sender today) ticket sender today received (now (slip .entry)) (now (room .entry)) ⌝ }
+    ensures { λ _. ⌜ now (slip .exit) ≡ submitWritten fit (caseFrom looked sender today) ticket sender today received (now (slip .entry)) (now (room .entry)) ⌝ }
 {
     if !room_fits(room) {
         return Answer::RoomUnfit;
     }
-    if !fits(g) {
+    if !fit {
         return Answer::DirectoryUnfit;
     }
     if ticket_bad(room, ticket) {
@@ -130,16 +145,34 @@ pub fn submit_among(
     if steps_in(room, ticket.seat) == STEPS {
         return Answer::JournalFull;
     }
-    let received = receive(sheet);
-    let answer = received.answer;
-    match answer {
+    match received {
         message::Answer::IllFormed(place) => Answer::IllFormed(place),
         message::Answer::BadField(number) => Answer::BadField(number),
         message::Answer::Good(m) => {
-            let c = case_of(g, sender, today, m);
+            let c = case_from(looked, sender, today, m);
             let from = SEAT_LONG * ticket.seat as usize;
             let to = from + SEAT_LONG;
             judge_in(&mut room[from..to], ticket, c, slip)
         }
     }
+}
+
+// Submits a sheet for a sender on a date, with the directory as it was gathered.
+pub fn submit_among(
+    room: &mut [u64],
+    g: Gathered,
+    ticket: Ticket,
+    sender: u64,
+    today: u64,
+    sheet: &[u8],
+    slip: &mut [u8],
+) -> Answer
+    ensures { λ r. ⌜ told r ≡ submitTold (directoryIn g) ticket sender today (now (sheet .entry)) (now (slip .entry)) (now (room .entry)) ⌝ }
+    ensures { λ _. ⌜ now (room .exit) ≡ submitAfter (directoryIn g) ticket sender today (now (sheet .entry)) (now (slip .entry)) (now (room .entry)) ⌝ }
+    ensures { λ _. ⌜ now (slip .exit) ≡ submitSlip (directoryIn g) ticket sender today (now (sheet .entry)) (now (slip .entry)) (now (room .entry)) ⌝ }
+{
+    let received = received_in(sheet);
+    let fit = fits(g);
+    let looked = look_among(g, sender, asked_in(received));
+    submit_found(room, fit, looked, ticket, sender, today, received, slip)
 }

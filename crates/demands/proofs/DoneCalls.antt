@@ -135,11 +135,11 @@ module _ (dir : List Participant) (s : List ℕ) where
     submit-is-done : (sender today : ℕ) (sheet slip : List ℕ) → isDone (actTells dir ticket (submit sender today sheet slip) s) ≡ true
         → (isFit dir ≡ true) × (noTicket (ticket .opening) s ≡ false) × (leb sender codeMost ≡ true) × (eqb (headOf s .steps) steps ≡ false)
         × (eqb (numberOf (receivedOf sheet .answer) .0) 7 ≡ false) × (eqb (numberOf (receivedOf sheet .answer) .0) 8 ≡ false)
-        × (notTaken (verdictOn dir sender today (receivedOf sheet .answer) s) ≡ false)
+        × (notTaken (verdictOn (caseOf dir sender today) (receivedOf sheet .answer) s) ≡ false)
     unfolding actTells isDone
     submit-is-done sender today sheet slip e =
         let received : Answer = receivedOf sheet .answer in
-        let check : ℕ = verdictOn dir sender today received s in
+        let check : ℕ = verdictOn (caseOf dir sender today) received s in
         let ninth : Told = cond (notTaken check) (refusedWith 12 check) (done []) in
         let eighth : Told = cond (eqb (numberOf received .0) 8) (refusedWith 8 (numberOf received .1)) ninth in
         let seventh : Told = cond (eqb (numberOf received .0) 7) (refusedWith 7 (numberOf received .1)) eighth in
@@ -173,7 +173,7 @@ module _ (dir : List Participant) (s : List ℕ) where
       where
         go : (a : Answer) → receivedOf sheet .answer ≡ a → isFit dir ≡ true → headOf s .opened ≡ 1 → sender ≤ codeMost
             → eqb (headOf s .steps) steps ≡ false → eqb (numberOf a .0) 7 ≡ false → eqb (numberOf a .0) 8 ≡ false
-            → notTaken (verdictOn dir sender today a s) ≡ false → OneStep (stepped (stepOn dir sender today a s) s) s
+            → notTaken (verdictOn (caseOf dir sender today) a s) ≡ false → OneStep (stepped (stepOn (caseOf dir sender today) a s) s) s
         go (IllFormed place) q known open-now code free seven eight taken = absurd (false≢true (sym seven))
         go (BadField number) q known open-now code free seven eight taken = absurd (false≢true (sym eight))
         go (Good m) q known open-now code free seven eight taken =

@@ -19,6 +19,7 @@ use Rattle.journal.specs.Steps.{settingsFit}
 use Rattle.journal.specs.Working.{stepped, backed}
 use Rattle.seat.specs.Fit.{closedSeat, openSeat}
 use Rattle.seat.specs.Calls.{noTicket, sumsGood, accountNamed, accountNumber, settingsOf}
+use Rattle.judge.specs.Case.{caseOf}
 use Rattle.centre.specs.declared.Ticket.{Ticket}
 use Rattle.centre.specs.Answers.{Told, done, refused, refusedWith, first, behind}
 use Rattle.centre.specs.Calls.{setIn}
@@ -46,7 +47,7 @@ module _ (dir : List Participant) where
       ∷ (eqb (headOf s .steps) steps, refused 9)
       ∷ (eqb (numberOf (receivedOf sheet .answer) .0) 7, refusedWith 7 (numberOf (receivedOf sheet .answer) .1))
       ∷ (eqb (numberOf (receivedOf sheet .answer) .0) 8, refusedWith 8 (numberOf (receivedOf sheet .answer) .1))
-      ∷ (notTaken (verdictOn dir sender today (receivedOf sheet .answer) s), refusedWith 12 (verdictOn dir sender today (receivedOf sheet .answer) s))
+      ∷ (notTaken (verdictOn (caseOf dir sender today) (receivedOf sheet .answer) s), refusedWith 12 (verdictOn (caseOf dir sender today) (receivedOf sheet .answer) s))
       ∷ []) (done [])
   actTells ticket takeBack s = first ((noTicket (ticket .opening) s, refused 3) ∷ (eqb (headOf s .steps) 0, refused 10) ∷ []) (done [])
   actTells ticket (read owner number) s =
@@ -60,7 +61,7 @@ module _ (dir : List Participant) where
   unfoldable pub actMakes : Act → List ℕ → List ℕ
   actMakes close s = closedSeat (headOf s .opening)
   actMakes (set owner number wish) s = setIn (accountNumber (found dir owner) number) wish s
-  actMakes (submit sender today sheet slip) s = stepped (stepOn dir sender today (receivedOf sheet .answer) s) s
+  actMakes (submit sender today sheet slip) s = stepped (stepOn (caseOf dir sender today) (receivedOf sheet .answer) s) s
   actMakes takeBack s = backed s
   actMakes (read owner number) s = s
 
@@ -70,7 +71,7 @@ module _ (dir : List Participant) where
   actWrites ticket (set owner number wish) s = []
   actWrites ticket (submit sender today sheet slip) s =
       behind (actTells ticket (submit sender today sheet slip) s)
-      (image (slipOf ticket (suc (headOf s .steps)) (stepOn dir sender today (receivedOf sheet .answer) s)) ++ drop 5 slip) slip
+      (image (slipOf ticket (suc (headOf s .steps)) (stepOn (caseOf dir sender today) (receivedOf sheet .answer) s)) ++ drop 5 slip) slip
   actWrites ticket takeBack s = []
   actWrites ticket (read owner number) s = []
 

@@ -18,6 +18,7 @@ use Rattle.layout.specs.Seat.{roomLong, headOf, seatOf, withSeat}
 use Rattle.layout.proofs.Rooms.{seat-same}
 use Rattle.seat.specs.Fit.{roomFits}
 use Rattle.seat.proofs.Rooms.{room-long}
+use Rattle.judge.specs.Case.{caseOf}
 use Rattle.centre.specs.declared.Ticket.{Ticket}
 use Rattle.centre.specs.Answers.{Told, refused, isDone, behind}
 use Rattle.centre.specs.Calls.{noSeat, ticketBad, openTold, openAfter, closeTold, closeAfter, setTold, setAfter, backTold, backAfter, readTold}
@@ -93,13 +94,13 @@ module _ (dir : List Participant) (room : List ℕ) (fit : roomFits room ≡ tru
     act-told (read owner number) = rw (fit, here)
 
     act-slip : (act : Act) → actSlip dir ticket act room ≡ actWrites dir ticket act (seatOf room (ticket .seat))
-    unfolding actSlip actWrites submitSlip actTold
+    unfolding actSlip actWrites submitTold submitSlip actTold
     act-slip close = refl
     act-slip (set owner number wish) = refl
     act-slip (submit sender today sheet slip) =
         let s : List ℕ = seatOf room (ticket .seat) in
         ap (λ (t : Told). behind t
-        (image (slipOf ticket (suc (headOf s .steps)) (stepOn dir sender today (receivedOf sheet .answer) s)) ++ drop 5 slip) slip)
+        (image (slipOf ticket (suc (headOf s .steps)) (stepOn (caseOf dir sender today) (receivedOf sheet .answer) s)) ++ drop 5 slip) slip)
         (act-told (submit sender today sheet slip))
     act-slip takeBack = refl
     act-slip (read owner number) = refl
@@ -107,7 +108,7 @@ module _ (dir : List Participant) (room : List ℕ) (fit : roomFits room ≡ tru
     act-room : (act : Act)
         → actRoom dir ticket act room
         ≡ behind (actTold dir ticket act room) (withSeat room (ticket .seat) (actMakes dir act (seatOf room (ticket .seat)))) room
-    unfolding actRoom actMakes actTold closeAfter setTold setAfter submitAfter backAfter
+    unfolding actRoom actMakes actTold closeAfter setTold setAfter submitTold submitAfter backAfter
     act-room close = refl
     act-room (set owner number wish) = refl
     act-room (submit sender today sheet slip) = refl
@@ -200,7 +201,7 @@ module _ (dir : List Participant) (room : List ℕ) (fit : roomFits room ≡ tru
   open-refused seat sums out = rw (fit, out) (refused-either (isFit dir))
 
   act-stays : (ticket : Ticket) (act : Act) → isDone (actTold dir ticket act room) ≡ false → actRoom dir ticket act room ≡ room
-  unfolding actTold actRoom closeAfter setTold setAfter submitAfter backAfter
+  unfolding actTold actRoom closeAfter setTold setAfter submitTold submitAfter backAfter
   act-stays ticket close e = behind-refused (closeTold ticket room) _ room e
   act-stays ticket (set owner number wish) e = behind-refused (setTold dir ticket owner number wish room) _ room e
   act-stays ticket (submit sender today sheet slip) e = behind-refused (submitTold dir ticket sender today sheet slip room) _ room e

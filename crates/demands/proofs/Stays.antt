@@ -10,7 +10,7 @@ use Rattle.directory.specs.declared.Participant.{Participant}
 use Rattle.centre.specs.declared.Ticket.{Ticket}
 use Rattle.centre.specs.Answers.{Told, done, refused, first, isDone, behind}
 use Rattle.centre.specs.Calls.{openAfter, closeAfter, setTold, setAfter, backAfter}
-use Rattle.centre.specs.Submit.{submitAfter, submitSlip}
+use Rattle.centre.specs.Submit.{submitTold, submitAfter, submitSlip}
 use Rattle.centre.specs.Slips.{writeTold}
 use Rattle.centre.proofs.First.{behind-refused}
 use Rattle.demands.specs.Calls.{
@@ -47,7 +47,7 @@ nothing-written false made came some = refl
 module _ (dir : List Participant) (room : List ℕ) where
   act-stays : (ticket : Ticket) (act : Act) → (actTold dir ticket act room .number ≡ 0 → ⊥)
       → (actRoom dir ticket act room ≡ room) × (actSlip dir ticket act room ≡ actLent act)
-  unfolding actTold actRoom actSlip actLent closeAfter setTold setAfter submitAfter submitSlip backAfter
+  unfolding actTold actRoom actSlip actLent closeAfter setTold setAfter submitTold submitAfter submitSlip backAfter
   act-stays ticket close some = (nothing-made _ _ _ some, refl)
   act-stays ticket (set owner number wish) some = (nothing-made _ _ _ some, refl)
   act-stays ticket (submit sender today sheet slip) some = (nothing-made _ _ _ some, nothing-made _ _ _ some)

@@ -20,6 +20,7 @@ use Rattle.layout.specs.Seat.{headOf, accountOf, seatOf}
 use Rattle.journal.specs.Steps.{settingsFit}
 use Rattle.seat.specs.Fit.{roomFits}
 use Rattle.seat.specs.Calls.{sumsGood, accountNamed, accountNumber, settingsOf}
+use Rattle.judge.specs.Case.{caseOf}
 use Rattle.centre.specs.declared.Ticket.{Ticket}
 use Rattle.centre.specs.Answers.{Told, done, refused, refusedWith, slipValues, first}
 use Rattle.centre.specs.Calls.{noSeat, ticketBad, openTold, closeTold, setTold, backTold, readTold}
@@ -109,7 +110,7 @@ module _ (dir : List Participant) (room : List ℕ) where
       ∷ (eqb (headOf s .steps) steps, refused 9)
       ∷ (eqb (numberOf received .0) 7, refusedWith 7 (numberOf received .1))
       ∷ (eqb (numberOf received .0) 8, refusedWith 8 (numberOf received .1))
-      ∷ (notTaken (verdictOn dir sender today received s), refusedWith 12 (verdictOn dir sender today received s))
+      ∷ (notTaken (verdictOn (caseOf dir sender today) received s), refusedWith 12 (verdictOn (caseOf dir sender today) received s))
       ∷ []) [] refl
       ((refl, refl), ((refl, refl), ((refl, refl), ((refl, refl), ((refl, refl), ((refl, refl), ((refl, refl), ((refl, refl), ((refl, refl), tt)))))))))
   act-tells ticket takeBack =

@@ -65,7 +65,7 @@ module _ (dir : List Participant) (ticket : Ticket) (sender today : ℕ) (sheet 
   unfolding submitTold judgedTold verdictOn
   told-judged = rw (f .fit, f .listed, f .ticketed, f .named, f .long, f .free, good)
 
-  step-made : stepOn dir sender today (receivedOf sheet .answer) place ≡ made
+  step-made : stepOn (caseOf dir sender today) (receivedOf sheet .answer) place ≡ made
   unfolding stepOn
   step-made = rw good
 
@@ -111,13 +111,13 @@ module _ (dir : List Participant) (ticket : Ticket) (sender today : ℕ) (sheet 
     pub not-taken : (submitTold dir ticket sender today sheet slip room ≡ refusedWith 12 (verdict case place))
         × (submitAfter dir ticket sender today sheet slip room ≡ room)
         × (submitSlip dir ticket sender today sheet slip room ≡ slip)
-    unfolding submitAfter submitSlip
+    unfolding submitTold submitAfter submitSlip
     not-taken = (
       told-refused,
       behind-refused (submitTold dir ticket sender today sheet slip room)
-          (withSeat room (ticket .seat) (stepped (stepOn dir sender today (receivedOf sheet .answer) place) place)) room over,
+          (withSeat room (ticket .seat) (stepped (stepOn (caseOf dir sender today) (receivedOf sheet .answer) place) place)) room over,
       behind-refused (submitTold dir ticket sender today sheet slip room)
-          (image (slipOf ticket (suc (headOf place .steps)) (stepOn dir sender today (receivedOf sheet .answer) place)) ++ drop 5 slip) slip over,
+          (image (slipOf ticket (suc (headOf place .steps)) (stepOn (caseOf dir sender today) (receivedOf sheet .answer) place)) ++ drop 5 slip) slip over,
     )
 
   -- taken
@@ -135,10 +135,10 @@ module _ (dir : List Participant) (ticket : Ticket) (sender today : ℕ) (sheet 
         (judged-possible case place arises seat-long seat-open (not-one (verdict case place) takes) (not-two (verdict case place) takes))
 
     room-behind : submitAfter dir ticket sender today sheet slip room ≡ withSeat room (ticket .seat) (stepped made place)
-    unfolding submitAfter
+    unfolding submitTold submitAfter
     room-behind =
         behind-done (submitTold dir ticket sender today sheet slip room)
-        (withSeat room (ticket .seat) (stepped (stepOn dir sender today (receivedOf sheet .answer) place) place)) room finished
+        (withSeat room (ticket .seat) (stepped (stepOn (caseOf dir sender today) (receivedOf sheet .answer) place) place)) room finished
         ∙ ap (λ (x : Step). withSeat room (ticket .seat) (stepped x place)) step-made
 
     -- the seat behind has that step more
@@ -154,10 +154,10 @@ module _ (dir : List Participant) (ticket : Ticket) (sender today : ℕ) (sheet 
 
     slip-made : submitSlip dir ticket sender today sheet slip room
         ≡ image (slipOf ticket (suc (headOf place .steps)) made) ++ drop 5 slip
-    unfolding submitSlip
+    unfolding submitTold submitSlip
     slip-made =
         behind-done (submitTold dir ticket sender today sheet slip room)
-        (image (slipOf ticket (suc (headOf place .steps)) (stepOn dir sender today (receivedOf sheet .answer) place)) ++ drop 5 slip) slip finished
+        (image (slipOf ticket (suc (headOf place .steps)) (stepOn (caseOf dir sender today) (receivedOf sheet .answer) place)) ++ drop 5 slip) slip finished
         ∙ ap (λ (x : Step). image (slipOf ticket (suc (headOf place .steps)) x) ++ drop 5 slip) step-made
 
     slip-says : image (slipOf ticket (suc (headOf place .steps)) made) ++ drop 5 slip

@@ -18,6 +18,7 @@ use Rattle.layout.specs.Seat.{roomLong, headOf, seatOf}
 use Rattle.journal.specs.Steps.{settingsFit}
 use Rattle.seat.specs.Fit.{roomFits}
 use Rattle.seat.specs.Calls.{sumsGood, accountNamed, settingsOf}
+use Rattle.judge.specs.Case.{caseOf}
 use Rattle.centre.specs.declared.Ticket.{Ticket}
 use Rattle.centre.specs.Calls.{noSeat, ticketBad, layTold, layAfter}
 use Rattle.centre.specs.Submit.{notTaken, verdictOn}
@@ -123,7 +124,7 @@ module _ (dir : List Participant) (room : List ℕ) where
   -- 12: submit fails check 1 or 2
   abbrev pub checkOf : Ticket → Act → ℕ
   checkOf ticket act =
-      ofSubmit 0 (λ sender today sheet slip. verdictOn dir sender today (receivedOf sheet .answer) (seatOf room (ticket .seat))) act
+      ofSubmit 0 (λ sender today sheet slip. verdictOn (caseOf dir sender today) (receivedOf sheet .answer) (seatOf room (ticket .seat))) act
 
   -- the table of refusals in its order, 1 to 6, 11, 9, 10, 7, 8, 12: each number, and whether its row applies
   unfoldable pub table : Call → List (ℕ × Bool)

@@ -1,6 +1,9 @@
+pub mod Calling
 pub mod Finds
 pub mod Folds
 pub mod Gathers
+pub mod Given
+pub mod Seeking
 pub mod Settled
 pub mod Turns
 pub mod Walks

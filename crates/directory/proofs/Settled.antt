@@ -3,10 +3,11 @@
 use mathlib.Core.Path.{_≡_}
 use mathlib.Core.List.{List}
 use Prim.Native.Nat.{ℕ}
+use Rattle.shape.specs.declared.value.Value.{Value}
 use Rattle.directory.specs.declared.Participant.{Participant}
 use Rattle.directory.specs.declared.Gathered.{Gathered}
 use Rattle.directory.specs.declared.Found.{Found}
-use Rattle.directory.specs.Directory.{found}
+use Rattle.directory.specs.Directory.{found, foundAs}
 use Rattle.directory.specs.Gathering.{gathered}
 use Rattle.shape.proofs.Single.{Settled, by-equation}
 use Rattle.directory.proofs.fits.Kinds as fits-kinds
@@ -90,9 +91,12 @@ bank-in κs a x y e f = by-equation
 pub is-bank-found : Settled _ is-bank-found-kinds.ps is-bank-found-kinds.r is-bank-found-reads.Post
 is-bank-found κs a x y e f = by-equation
 
--- of the two that go through the lent list, over the definition that the contract cites
+-- of the three that take the lent list, over the definition that the contract cites
 pub gather : (dir : List Participant) (x y : Gathered) → x ≡ gathered dir → y ≡ gathered dir → x ≡ y
 gather dir x y = by-equation
 
 pub find : (dir : List Participant) (code : ℕ) (x y : Found) → x ≡ found dir code → y ≡ found dir code → x ≡ y
 find dir code x y = by-equation
+
+pub find-given : (dir : List Participant) (code : Value) (x y : Found) → x ≡ foundAs dir code → y ≡ foundAs dir code → x ≡ y
+find-given dir code x y = by-equation

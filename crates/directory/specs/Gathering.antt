@@ -5,6 +5,8 @@ use Prim.Native.Nat.{ℕ, suc, _-_}
 use lib.Dec.{leb, ltb, eqb}
 use lib.ListN.{set, replicate, take}
 use Rattle.shape.specs.Bytes.{every}
+use Rattle.shape.specs.declared.value.Value.{Value}
+use Rattle.shape.specs.declared.value.Value.the-variants.{Of, None}
 use Rattle.directory.specs.declared.Kind.the-variants.{Owner}
 use Rattle.directory.specs.declared.Participant.{Participant}
 use Rattle.directory.specs.declared.Found.{Found}
@@ -49,3 +51,13 @@ fitGathered g =
 unfoldable pub looked : Found → ℕ → Participant → ℕ → Found
 looked (At k q) place p code = At k q
 looked Missing place p code = cond (eqb (p .code) code) (At place p) Missing
+
+-- a code to look for, 0 where none is given, and what was found, where one was given. That both together are the search for a code that may not be
+-- given is proved in `proofs/Given.antt`
+unfoldable pub codeIn : Value → ℕ
+codeIn (Of code) = code
+codeIn None = 0
+
+unfoldable pub ifGiven : Value → Found → Found
+ifGiven (Of code) f = f
+ifGiven None f = Missing

@@ -1,6 +1,7 @@
 // The directory: who takes part, what it means to be listed, and whose accounts a participant uses. Document 01, "Room, seats, directory".
 // All definitions are over the list of participants (`specs/Directory.antt`). The code goes through the lent list in two places only, which
-// find a code's record and gather the records for the test of fitness; everything else works on what was found.
+// find a code's record and gather the records for the test of fitness; everything else works on what was found. A code that may not be given
+// is looked up by the same search.
 
 use shape::value::Value;
 ghost use mathlib.Core.Path.{_≡_};
@@ -9,7 +10,7 @@ ghost use lib.Dec.{leb};
 ghost use Rattle.shape.specs.Bytes.{every};
 ghost use Rattle.directory.specs.declared.Participant.{Participant};
 ghost use Rattle.directory.specs.Directory.{codeMost, found, isOwner, ownerFound, names, ascending, isListed, isInstant, inSep, accountCode, underSep, underAsp, headNamed, headIn, bankNamed, bankIn, isBank, bankFound, placeIn, accountIn, foundAs};
-ghost use Rattle.directory.specs.Gathering.{nobody, noneGathered, added, gathered, looked, recordsIn, fitGathered};
+ghost use Rattle.directory.specs.Gathering.{nobody, noneGathered, added, gathered, looked, codeIn, ifGiven, recordsIn, fitGathered};
 
 // The highest code.
 pub const CODE_MOST: u64 = 999999;
@@ -114,6 +115,35 @@ pub fn find(dir: &[Participant], code: u64) -> Found
         i += 1;
     }
     out
+}
+
+// The code to look for, 0 where none is given.
+fn code_in(code: Value) -> u64
+    ensures { λ r. ⌜ r ≡ codeIn code ⌝ }
+{
+    match code {
+        Value::Of(n) => n,
+        Value::None => 0,
+    }
+}
+
+// What was found, where a code was given to look for.
+fn if_given(code: Value, found: Found) -> Found
+    ensures { λ r. ⌜ r ≡ ifGiven code found ⌝ }
+{
+    match code {
+        Value::Of(_n) => found,
+        Value::None => Found::Missing,
+    }
+}
+
+// The record of a code that may not be given.
+pub fn find_given(dir: &[Participant], code: Value) -> Found
+    ensures { λ r. ⌜ r ≡ foundAs (now (dir .entry)) code ⌝ }
+{
+    let n = code_in(code);
+    let found = find(dir, n);
+    if_given(code, found)
 }
 
 pub fn is_owner(kind: Kind) -> bool

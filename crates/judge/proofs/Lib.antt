@@ -1,4 +1,7 @@
+pub mod Asking
 pub mod Holders
+pub mod Looking
+pub mod Lookups
 pub mod Movements
 pub mod Orders
 pub mod Passed

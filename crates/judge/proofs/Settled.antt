@@ -1,6 +1,15 @@
 -- Of each public function: no second answer satisfies its contract.
 -- Assumes nothing.
+use mathlib.Core.Path.{_≡_}
+use mathlib.Core.List.{List}
+use Prim.Native.Nat.{ℕ}
 use Rattle.shape.proofs.Single.{Settled, by-equation}
+use Rattle.directory.specs.declared.Participant.{Participant}
+use Rattle.judge.specs.declared.case.Looked.{Looked}
+use Rattle.judge.specs.declared.records.Asked.{Asked}
+use Rattle.judge.specs.Records.{lookedFor}
+use Rattle.judge.proofs.case.case_from.Kinds as case-from-kinds
+use Rattle.judge.proofs.case.case_from.Reads as case-from-reads
 use Rattle.judge.proofs.case.case_of.Kinds as case-of-kinds
 use Rattle.judge.proofs.case.case_of.Reads as case-of-reads
 use Rattle.judge.proofs.case.movement_of.Kinds as movement-of-kinds
@@ -13,6 +22,15 @@ use Rattle.judge.proofs.outcome.end_of.Kinds as end-of-kinds
 use Rattle.judge.proofs.outcome.end_of.Reads as end-of-reads
 use Rattle.judge.proofs.outcome.step_of.Kinds as step-of-kinds
 use Rattle.judge.proofs.outcome.step_of.Reads as step-of-reads
+use Rattle.judge.proofs.records.asked_by.Kinds as asked-by-kinds
+use Rattle.judge.proofs.records.asked_by.Reads as asked-by-reads
+use Rattle.judge.proofs.records.asked_in.Kinds as asked-in-kinds
+use Rattle.judge.proofs.records.asked_in.Reads as asked-in-reads
+use Rattle.judge.proofs.records.look_among.Kinds as look-among-kinds
+use Rattle.judge.proofs.records.look_among.Reads as look-among-reads
+
+pub case-from : Settled _ case-from-kinds.ps case-from-kinds.r case-from-reads.Post
+case-from κs a x y e f = by-equation
 
 pub case-of : Settled _ case-of-kinds.ps case-of-kinds.r case-of-reads.Post
 case-of κs a x y e f = by-equation
@@ -31,3 +49,16 @@ end-of κs a x y e f = by-equation
 
 pub step-of : Settled _ step-of-kinds.ps step-of-kinds.r step-of-reads.Post
 step-of κs a x y e f = by-equation
+
+pub asked-by : Settled _ asked-by-kinds.ps asked-by-kinds.r asked-by-reads.Post
+asked-by κs a x y e f = by-equation
+
+pub asked-in : Settled _ asked-in-kinds.ps asked-in-kinds.r asked-in-reads.Post
+asked-in κs a x y e f = by-equation
+
+pub look-among : Settled _ look-among-kinds.ps look-among-kinds.r look-among-reads.Post
+look-among κs a x y e f = by-equation
+
+-- of the one that takes the lent directory, over the definition that the contract cites
+pub look-up : (dir : List Participant) (sender : ℕ) (asked : Asked) (x y : Looked) → x ≡ lookedFor dir sender asked → y ≡ lookedFor dir sender asked → x ≡ y
+look-up dir sender asked x y = by-equation

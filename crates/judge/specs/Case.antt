@@ -17,6 +17,7 @@ use Rattle.directory.specs.declared.Found.the-variants.{Missing}
 use Rattle.directory.specs.Directory.{codeMost, found, foundAs, ownerUsed, isFit}
 use Rattle.seat.specs.Calls.{accountFound}
 use Rattle.judge.specs.declared.case.Case.{Case}
+use Rattle.judge.specs.declared.case.Looked.{Looked}
 use Rattle.judge.specs.declared.case.Movement.{Movement}
 use Rattle.judge.specs.Values.{orZero}
 
@@ -46,17 +47,32 @@ movementOf m from to = record {
   amount = orZero (m .amount);
 }
 
-unfoldable pub caseOf : List Participant → ℕ → ℕ → Message → Case
-caseOf dir sender today m = record {
-  message = m;
-  sender = sender;
-  today = today;
+-- what is looked up for a message
+abbrev pub lookedUp : List Participant → ℕ → Message → Looked
+lookedUp dir sender m = record {
   source = found dir sender;
   instructed = foundAs dir (m .instructed);
   debtor = foundAs dir (m .debtor .code);
   creditor = foundAs dir (m .creditor .code);
-  movement = movementOf m (debitOwner dir m (m .kind)) (creditOwner dir m (m .kind));
+  debit = debitOwner dir m (m .kind);
+  credit = creditOwner dir m (m .kind);
 }
+
+-- the case of a message, by what was looked up for it
+abbrev pub caseFrom : Looked → ℕ → ℕ → Message → Case
+caseFrom looked sender today m = record {
+  message = m;
+  sender = sender;
+  today = today;
+  source = looked .source;
+  instructed = looked .instructed;
+  debtor = looked .debtor;
+  creditor = looked .creditor;
+  movement = movementOf m (looked .debit) (looked .credit);
+}
+
+unfoldable pub caseOf : List Participant → ℕ → ℕ → Message → Case
+caseOf dir sender today m = caseFrom (lookedUp dir sender m) sender today m
 
 -- a case as it comes up: the message is one that a sheet can be, the sender is a code, and all was looked up in one fit directory
 pub record Arises (c : Case) : Type 0 where

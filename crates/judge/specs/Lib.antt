@@ -1,4 +1,5 @@
 pub mod Values
 pub mod Case
+pub mod Records
 pub mod Rows
 pub mod Verdict

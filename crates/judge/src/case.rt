@@ -1,27 +1,38 @@
 // What the checks look at beside the seat: the message, its sender, the call's date, and what the directory says. The rules stand in
 // `specs/Case.antt`.
+use crate::records::asked_by;
+use crate::records::look_among;
 use crate::values::or_zero;
 use directory::Found;
 use directory::Gathered;
-use directory::account_in;
-use directory::find_as;
-use directory::find_in;
 use message::Message;
 use seat::account_found;
 use shape::value::Value;
 use table::Kind;
 ghost use mathlib.Core.Path.{_≡_};
 ghost use mathlib.Core.Bool.{true};
-ghost use Rattle.directory.specs.Directory.{ownerUsed};
 ghost use Rattle.directory.specs.Gathering.{recordsIn, fitGathered};
 ghost use Rattle.seat.specs.Calls.{placeFits};
-ghost use Rattle.judge.specs.Case.{debitOwner, creditOwner, accountOn, movementOf, caseOf};
+ghost use Rattle.judge.specs.Case.{accountOn, movementOf, caseFrom, caseOf};
 
 // The debited and the credited account by their numbers in the seat, and the amount in kopecks.
 pub struct Movement {
     pub debit: Value,
     pub credit: Value,
     pub amount: u64,
+}
+
+// What was found in the directory of the sender, of the agents and of the owners of the accounts that a message moves money between.
+pub struct Looked {
+    // The sender's record.
+    pub source: Found,
+    // The records of InstdAgt, DbtrAgt and CdtrAgt.
+    pub instructed: Found,
+    pub debtor: Found,
+    pub creditor: Found,
+    // The records of the owners of the debited and of the credited account.
+    pub debit: Found,
+    pub credit: Found,
 }
 
 // A message, who sent it and when, and what was found in the directory.
@@ -36,37 +47,6 @@ pub struct Case {
     pub debtor: Found,
     pub creditor: Found,
     pub movement: Movement,
-}
-
-// The record of the owner whose accounts a code uses.
-fn owner_used(g: Gathered, code: Value) -> Found
-    ensures { λ r. ⌜ r ≡ ownerUsed (recordsIn g) code ⌝ }
-{
-    find_as(g, account_in(find_as(g, code)))
-}
-
-fn debit_owner(g: Gathered, m: Message) -> Found
-    ensures { λ r. ⌜ r ≡ debitOwner (recordsIn g) m (m .kind) ⌝ }
-{
-    let kind = m.kind;
-    let code = m.instructing;
-    match kind {
-        Kind::Pacs008 => owner_used(g, code),
-        Kind::Camt050 => find_in(g, m.debit.code),
-        Kind::Pacs028 => Found::Missing,
-    }
-}
-
-fn credit_owner(g: Gathered, m: Message) -> Found
-    ensures { λ r. ⌜ r ≡ creditOwner (recordsIn g) m (m .kind) ⌝ }
-{
-    let kind = m.kind;
-    let code = m.instructed;
-    match kind {
-        Kind::Pacs008 => owner_used(g, code),
-        Kind::Camt050 => find_in(g, m.credit.code),
-        Kind::Pacs028 => Found::Missing,
-    }
 }
 
 // Which of an owner's two accounts.
@@ -94,24 +74,34 @@ pub fn movement_of(m: Message, from: Found, to: Found) -> Movement
     }
 }
 
+// The case of a message, by what was looked up for it.
+pub fn case_from(looked: Looked, sender: u64, today: u64, m: Message) -> Case
+    requires { ⌜ (placeFits (looked .debit) ≡ true) × (placeFits (looked .credit) ≡ true) ⌝ }
+    ensures { λ r. ⌜ r ≡ caseFrom looked sender today m ⌝ }
+{
+    let debit = looked.debit;
+    let credit = looked.credit;
+    let source = looked.source;
+    let instructed = looked.instructed;
+    let debtor = looked.debtor;
+    let creditor = looked.creditor;
+    Case {
+        message: m,
+        sender,
+        today,
+        source,
+        instructed,
+        debtor,
+        creditor,
+        movement: movement_of(m, debit, credit),
+    }
+}
+
 // The case of a message, by the records of a directory that is fit.
 pub fn case_of(g: Gathered, sender: u64, today: u64, m: Message) -> Case
     requires { ⌜ fitGathered g ≡ true ⌝ }
     ensures { λ r. ⌜ r ≡ caseOf (recordsIn g) sender today m ⌝ }
 {
-    let instructed = m.instructed;
-    let debtor_agent = m.debtor;
-    let debtor = debtor_agent.code;
-    let creditor_agent = m.creditor;
-    let creditor = creditor_agent.code;
-    Case {
-        message: m,
-        sender,
-        today,
-        source: find_in(g, sender),
-        instructed: find_as(g, instructed),
-        debtor: find_as(g, debtor),
-        creditor: find_as(g, creditor),
-        movement: movement_of(m, debit_owner(g, m), credit_owner(g, m)),
-    }
+    let looked = look_among(g, sender, asked_by(m));
+    case_from(looked, sender, today, m)
 }

@@ -1,228 +1,44 @@
--- Each refusal has its place in the table; behind them all, what judging makes of the seat is put back in its place.
-use mathlib.Core.Path.{_≡_, refl, sym, ap, _∙_}
-use mathlib.Core.Bool.{true, false, _&&_}
-use mathlib.Core.List.{List}
-use Prim.Native.Nat.{_<_}
-use native.Mathlib.Omega.{arith}
-use lib.Dec.{leb}
+-- What the test and the searches among the records give is what the directory that was gathered gives, where that matters.
 use lib.ListN.{length-map}
-use borrow.Author.Tests.{not-true, not-false}
-use Rattle.shape.specs.Dates.{isDate}
-use Rattle.slip.specs.Meaning.{seats, steps}
-use Rattle.message.specs.declared.Received.{Received}
-use Rattle.message.specs.declared.Answer.the-variants.{Good}
-use Rattle.message.specs.Received.{receivedOf}
-use Rattle.directory.specs.declared.Participant.{Participant}
-use Rattle.directory.specs.Directory.{codeMost, isFit}
-use Rattle.directory.specs.Gathering.{directoryIn, fitGathered}
-use Rattle.directory.proofs.Gathers.{directory-fit, directory-records}
-use Rattle.layout.specs.Seat.{headOf, seatOf}
-use Rattle.seat.specs.Fit.{roomFits}
-use Rattle.seat.proofs.Rooms.{room-long, seat-lent}
-use Rattle.judge.specs.Case.{caseOf}
-use Rattle.centre.specs.Calls.{ticketBad}
-use Rattle.centre.proofs.Submitted.{
-  Passed,
-  ticket-seat,
-  numbers-bad,
-  numbers-good,
-  room-unfit,
-  directory-unfit,
-  no-ticket,
-  bad-number,
-  no-slip,
-  journal-full,
-  ill-formed,
-  bad-field,
-  can-judge,
-  judged,
-  seat-back,
-}
+use Rattle.centre.specs.Answers.{told}
+use Rattle.centre.proofs.SubmitSought.{gathered-sought, gathered-submit}
 use borrow.Author.Needs.{needs}
 use Rattle.centre.proofs.submit.submit_among.Statement.{statement}
 use Rattle.centre.proofs.submit.submit_among.Tie as tie
 
--- what each test that was passed says
-room-good : (c : tie.Else1) → roomFits (c .before .before .before .before .before .before .args .room .now) ≡ true
-room-good c = sym (c .before .room-fits .ensures) ∙ not-false _ (c .if1 .left)
-
-directory-good : (c : tie.Else2) → fitGathered (c .before .before .before .before .before .before .before .before .args .g) ≡ true
-directory-good c = sym (c .before .fits2 .ensures) ∙ not-false _ (c .if2 .left)
-
-directory-right : (c : tie.Else2) → isFit (directoryIn (c .before .before .before .before .before .before .before .before .args .g)) ≡ true
-directory-right c = sym (directory-fit (c .before .before .before .before .before .before .before .before .args .g) (simp length-map at (c .before .before .before .before .before .before .before .before .good .1 .0 .1 .1 .1 .0 .1 .0 .1))) ∙ directory-good c
-
-ticket-right : (c : tie.Else3) → ticketBad (c .before .before .before .before .before .before .before .before .before .before .before .args .ticket) (c .before .before .before .before .before .before .before .before .before .before .before .args .room .now) ≡ false
-ticket-right c = sym (c .before .ticket-bad .ensures) ∙ c .if3 .left
-
-seat-low : (c : tie.Else3) → c .before .before .before .before .before .before .before .before .before .before .before .args .ticket .seat < seats
-seat-low c = ticket-seat (c .before .before .before .before .before .before .before .before .before .before .before .args .ticket) (c .before .before .before .before .before .before .before .before .before .before .before .args .room .now) (ticket-right c)
-
-numbers-right : (c : tie.Else4) → (leb (c .before .before .before .before .before .before .before .before .before .before .before .before .before .args .sender) codeMost && isDate (c .before .before .before .before .before .before .before .before .before .before .before .before .before .args .today)) ≡ true
-numbers-right c = numbers-good (c .before .before .before .before .before .before .before .before .before .before .before .before .before .args .sender) (c .before .before .before .before .before .before .before .before .before .before .before .before .before .args .today) (c .before .is-date .result) (c .before .is-date .ensures) (c .if4 .left)
-
-passed : (c : tie.Else6) → Passed (directoryIn (c .before .before .before .before .before .before .before .before .before .before .before .before .before .before .before .before .before .args .g)) (c .before .before .before .before .before .before .before .before .before .before .before .before .before .before .before .before .before .args .ticket) (c .before .before .before .before .before .before .before .before .before .before .before .before .before .before .before .before .before .args .sender) (c .before .before .before .before .before .before .before .before .before .before .before .before .before .before .before .before .before .args .today) (c .before .before .before .before .before .before .before .before .before .before .before .before .before .before .before .before .before .args .slip .now) (c .before .before .before .before .before .before .before .before .before .before .before .before .before .before .before .before .before .args .room .now)
-passed c = record {
-  room-fit = room-good (c .before .before .before .before .before .before .before .before .before .before .before);
-  directory-fit = directory-right (c .before .before .before .before .before .before .before .before .before);
-  ticket-right = ticket-right (c .before .before .before .before .before .before);
-  numbers-right = numbers-right (c .before .before .before .before);
-  slip-long = c .before .before .before .if5 .left;
-  steps-left = λ (e : headOf (seatOf (c .before .before .before .before .before .before .before .before .before .before .before .before .before .before .before .before .before .args .room .now) (c .before .before .before .before .before .before .before .before .before .before .before .before .before .before .before .before .before .args .ticket .seat)) .steps ≡ steps). c .if6 .left (c .before .steps-in .ensures ∙ e);
-}
-
--- the message of the sheet, and its case by the whole directory
-message-good : (c : tie.After-case-of) → receivedOf (c .before .before .before .before .before .before .before .before .before .before .before .before .before .before .before .before .before .before .before .before .before .before .args .sheet .now) .answer ≡ Good (c .before .before .answer3 .given .0 .0)
-message-good c = ap (λ (r : Received). r .answer) (sym (c .before .before .before .before .receive .ensures)) ∙ c .before .before .answer3 .given .1
-
-case-right : (c : tie.After-case-of) → c .case-of .result ≡ caseOf (directoryIn (c .before .before .before .before .before .before .before .before .before .before .before .before .before .before .before .before .before .before .before .before .before .before .args .g)) (c .before .before .before .before .before .before .before .before .before .before .before .before .before .before .before .before .before .before .before .before .before .before .args .sender) (c .before .before .before .before .before .before .before .before .before .before .before .before .before .before .before .before .before .before .before .before .before .before .args .today) (c .before .before .answer3 .given .0 .0)
-case-right c = c .case-of .ensures ∙ ap (λ (d : List Participant). caseOf d (c .before .before .before .before .before .before .before .before .before .before .before .before .before .before .before .before .before .before .before .before .before .before .args .sender) (c .before .before .before .before .before .before .before .before .before .before .before .before .before .before .before .before .before .before .before .before .before .before .args .today) (c .before .before .answer3 .given .0 .0)) (sym (directory-records (c .before .before .before .before .before .before .before .before .before .before .before .before .before .before .before .before .before .before .before .before .before .before .args .g) (directory-good (c .before .before .before .before .before .before .before .before .before .before .before .before .before .before))))
-
-room-fits-requires : tie.Need-room-fits-requires
-room-fits-requires c κs = tt
-
-same-length : tie.Need-same-length
-same-length c = refl
-
-returns : tie.Need-returns
-returns c = room-unfit (directoryIn (c .before .before .before .before .before .before .args .g)) (c .before .before .before .before .before .before .args .ticket) (c .before .before .before .before .before .before .args .sender) (c .before .before .before .before .before .before .args .today) (c .before .before .before .before .before .before .args .sheet .now) (c .before .before .before .before .before .before .args .slip .now) (c .before .before .before .before .before .before .args .room .now) (sym (c .before .room-fits .ensures) ∙ not-true _ (c .if1 .taken))
+received-in-requires : tie.Need-received-in-requires
+received-in-requires c κs = tt
 
 fits-requires : tie.Need-fits-requires
 fits-requires c κs = tt
 
+asked-in-requires : tie.Need-asked-in-requires
+asked-in-requires c κs = tt
+
+look-among-requires : tie.Need-look-among-requires
+look-among-requires c κs = tt
+
+submit-found-requires : tie.Need-submit-found-requires
+submit-found-requires c κs = gathered-sought (c .before .before .before .before .before .before .before .before .before .args .g) (simp length-map at (c .before .before .before .before .before .before .before .before .before .good .1 .0 .1 .1 .1 .0 .1 .0 .1)) (c .before .before .before .before .before .before .before .before .before .args .sheet .now) (c .before .before .before .before .before .before .before .before .before .args .sender) (c .before .before .before .before .fits2 .result) (c .before .before .look-among .result) (c .before .before .before .before .before .received-in .result) (c .before .before .before .asked-in .result) (c .before .before .before .before .fits2 .ensures) (c .before .before .before .before .before .received-in .ensures) (c .before .before .before .asked-in .ensures) (c .before .before .look-among .ensures)
+
+same-length : tie.Need-same-length
+same-length c = search needs
+
 same-length-2 : tie.Need-same-length-2
-same-length-2 c = refl
+same-length-2 c = search needs
 
-returns-2 : tie.Need-returns-2
-returns-2 c = directory-unfit (directoryIn (c .before .before .before .before .before .before .before .before .args .g)) (c .before .before .before .before .before .before .before .before .args .ticket) (c .before .before .before .before .before .before .before .before .args .sender) (c .before .before .before .before .before .before .before .before .args .today) (c .before .before .before .before .before .before .before .before .args .sheet .now) (c .before .before .before .before .before .before .before .before .args .slip .now) (c .before .before .before .before .before .before .before .before .args .room .now) (room-good (c .before .before)) (sym (directory-fit (c .before .before .before .before .before .before .before .before .args .g) (simp length-map at (c .before .before .before .before .before .before .before .before .good .1 .0 .1 .1 .1 .0 .1 .0 .1))) ∙ sym (c .before .fits2 .ensures) ∙ not-true _ (c .if2 .taken))
-
-ticket-bad-requires : tie.Need-ticket-bad-requires
-ticket-bad-requires c κs = room-long (c .before .before .before .before .before .before .before .before .before .args .room .now) (room-good (c .before .before .before))
-
-same-length-3 : tie.Need-same-length-3
-same-length-3 c = refl
-
-returns-3 : tie.Need-returns-3
-returns-3 c = no-ticket (directoryIn (c .before .before .before .before .before .before .before .before .before .before .before .args .g)) (c .before .before .before .before .before .before .before .before .before .before .before .args .ticket) (c .before .before .before .before .before .before .before .before .before .before .before .args .sender) (c .before .before .before .before .before .before .before .before .before .before .before .args .today) (c .before .before .before .before .before .before .before .before .before .before .before .args .sheet .now) (c .before .before .before .before .before .before .before .before .before .before .before .args .slip .now) (c .before .before .before .before .before .before .before .before .before .before .before .args .room .now) (room-good (c .before .before .before .before .before)) (directory-right (c .before .before .before)) (sym (c .before .ticket-bad .ensures) ∙ c .if3 .taken)
-
-is-date-requires : tie.Need-is-date-requires
-is-date-requires c κs = tt
-
-same-length-4 : tie.Need-same-length-4
-same-length-4 c = refl
-
-returns-4 : tie.Need-returns-4
-returns-4 c = bad-number (directoryIn (c .before .before .before .before .before .before .before .before .before .before .before .before .before .args .g)) (c .before .before .before .before .before .before .before .before .before .before .before .before .before .args .ticket) (c .before .before .before .before .before .before .before .before .before .before .before .before .before .args .sender) (c .before .before .before .before .before .before .before .before .before .before .before .before .before .args .today) (c .before .before .before .before .before .before .before .before .before .before .before .before .before .args .sheet .now) (c .before .before .before .before .before .before .before .before .before .before .before .before .before .args .slip .now) (c .before .before .before .before .before .before .before .before .before .before .before .before .before .args .room .now) (room-good (c .before .before .before .before .before .before .before)) (directory-right (c .before .before .before .before .before)) (ticket-right (c .before .before)) (numbers-bad (c .before .before .before .before .before .before .before .before .before .before .before .before .before .args .sender) (c .before .before .before .before .before .before .before .before .before .before .before .before .before .args .today) (c .before .is-date .result) (c .before .is-date .ensures) (c .if4 .taken))
-
-same-length-5 : tie.Need-same-length-5
-same-length-5 c = refl
-
-returns-5 : tie.Need-returns-5
-returns-5 c = no-slip (directoryIn (c .before .before .before .before .before .before .before .before .before .before .before .before .before .before .args .g)) (c .before .before .before .before .before .before .before .before .before .before .before .before .before .before .args .ticket) (c .before .before .before .before .before .before .before .before .before .before .before .before .before .before .args .sender) (c .before .before .before .before .before .before .before .before .before .before .before .before .before .before .args .today) (c .before .before .before .before .before .before .before .before .before .before .before .before .before .before .args .sheet .now) (c .before .before .before .before .before .before .before .before .before .before .before .before .before .before .args .slip .now) (c .before .before .before .before .before .before .before .before .before .before .before .before .before .before .args .room .now) (room-good (c .before .before .before .before .before .before .before .before)) (directory-right (c .before .before .before .before .before .before)) (ticket-right (c .before .before .before)) (numbers-right (c .before)) (c .if5 .taken)
-
-steps-in-requires : tie.Need-steps-in-requires
-steps-in-requires c κs = (room-long (c .before .before .before .before .before .before .before .before .before .before .before .before .before .before .before .args .room .now) (room-good (c .before .before .before .before .before .before .before .before .before)), seat-low (c .before .before .before .before))
-
-same-length-6 : tie.Need-same-length-6
-same-length-6 c = refl
-
-returns-6 : tie.Need-returns-6
-returns-6 c = journal-full (directoryIn (c .before .before .before .before .before .before .before .before .before .before .before .before .before .before .before .before .before .args .g)) (c .before .before .before .before .before .before .before .before .before .before .before .before .before .before .before .before .before .args .ticket) (c .before .before .before .before .before .before .before .before .before .before .before .before .before .before .before .before .before .args .sender) (c .before .before .before .before .before .before .before .before .before .before .before .before .before .before .before .before .before .args .today) (c .before .before .before .before .before .before .before .before .before .before .before .before .before .before .before .before .before .args .sheet .now) (c .before .before .before .before .before .before .before .before .before .before .before .before .before .before .before .before .before .args .slip .now) (c .before .before .before .before .before .before .before .before .before .before .before .before .before .before .before .before .before .args .room .now) (room-good (c .before .before .before .before .before .before .before .before .before .before .before)) (directory-right (c .before .before .before .before .before .before .before .before .before)) (ticket-right (c .before .before .before .before .before .before)) (numbers-right (c .before .before .before .before)) (c .before .before .before .if5 .left) (sym (c .before .steps-in .ensures) ∙ c .if6 .taken)
-
-receive-requires : tie.Need-receive-requires
-receive-requires c κs = tt
-
-enum-known-answer : tie.Need-enum-known-answer
-enum-known-answer c = search needs
-
-enum-known-answer-2 : tie.Need-enum-known-answer-2
-enum-known-answer-2 c = search needs
-
-enum-known-answer-3 : tie.Need-enum-known-answer-3
-enum-known-answer-3 c = search needs
-
-case-of-requires : tie.Need-case-of-requires
-case-of-requires c κs = directory-good (c .before .before .before .before .before .before .before .before .before .before .before .before .before)
-
-mul-from : tie.Need-mul-from
-mul-from c = omega (arith, seat-low (c .before .before .before .before .before .before .before .before .before .before .before))
-
-add-to : tie.Need-add-to
-add-to c = omega (arith, seat-low (c .before .before .before .before .before .before .before .before .before .before .before))
-
-mul-judge-in : tie.Need-mul-judge-in
-mul-judge-in c = omega (arith, seat-low (c .before .before .before .before .before .before .before .before .before .before .before))
-
-sub-judge-in : tie.Need-sub-judge-in
-sub-judge-in c = omega arith
-
-part-judge-in-start : tie.Need-part-judge-in-start
-part-judge-in-start c = omega arith
-
-part-judge-in-end : tie.Need-part-judge-in-end
-part-judge-in-end c = omega (arith, seat-low (c .before .before .before .before .before .before .before .before .before .before .before), room-long (c .before .before .before .before .before .before .before .before .before .before .before .before .before .before .before .before .before .before .before .before .before .before .args .room .now) (room-good (c .before .before .before .before .before .before .before .before .before .before .before .before .before .before .before .before)))
-
-judge-in-requires : tie.Need-judge-in-requires
-judge-in-requires c κs = can-judge (passed (c .before .before .before .before .before .before .before)) (c .before .before .before .before .before .before .before .before .before .before .before .before .before .before .before .before .before .before .before .before .before .before .before .before .args .sheet .now) (c .before .before .before .before .answer3 .given .0 .0) (message-good (c .before .before)) (c .before .before .case-of .result) (case-right (c .before .before)) _ (seat-lent (c .before .before .before .before .before .before .before .before .before .before .before .before .before .before .before .before .before .before .before .before .before .before .before .before .args .room .now) (c .before .before .before .before .before .before .before .before .before .before .before .before .before .before .before .before .before .before .before .before .before .before .before .before .args .ticket .seat))
-
-same-length-7 : tie.Need-same-length-7
-same-length-7 c = refl
-
-returns-7 : tie.Need-returns-7
-returns-7 c = ill-formed (passed (c .before .before .before .before)) (c .before .before .before .before .before .before .before .before .before .before .before .before .before .before .before .before .before .before .before .before .before .args .sheet .now) (c .before .answer .given .0 .0) (ap (λ (r : Received). r .answer) (sym (c .before .before .before .receive .ensures)) ∙ c .before .answer .given .1)
-
-same-length-8 : tie.Need-same-length-8
-same-length-8 c = refl
-
-returns-8 : tie.Need-returns-8
-returns-8 c = bad-field (passed (c .before .before .before .before)) (c .before .before .before .before .before .before .before .before .before .before .before .before .before .before .before .before .before .before .before .before .before .args .sheet .now) (c .before .answer2 .given .0 .0) (ap (λ (r : Received). r .answer) (sym (c .before .before .before .receive .ensures)) ∙ c .before .answer2 .given .1)
-
-same-length-9 : tie.Need-same-length-9
-same-length-9 c = search needs
-
-same-length-10 : tie.Need-same-length-10
-same-length-10 c = search needs
-
-returns-9 : tie.Need-returns-9
-returns-9 c = judged (passed (c .before .before .before .before .before .before .before .before .before .before .before .before)) (c .before .before .before .before .before .before .before .before .before .before .before .before .before .before .before .before .before .before .before .before .before .before .before .before .before .before .before .before .before .args .sheet .now) (c .before .before .before .before .before .before .before .before .before .answer3 .given .0 .0) (message-good (c .before .before .before .before .before .before .before)) (c .before .before .before .before .before .before .before .case-of .result) (case-right (c .before .before .before .before .before .before .before)) _ (seat-lent (c .before .before .before .before .before .before .before .before .before .before .before .before .before .before .before .before .before .before .before .before .before .before .before .before .before .before .before .before .before .args .room .now) (c .before .before .before .before .before .before .before .before .before .before .before .before .before .before .before .before .before .before .before .before .before .before .before .before .before .before .before .before .before .args .ticket .seat)) (c .before .before .before .before .judge-in .result) (c .before .before .before .before .judge-in .ensures .0) (c .before .before .before .before .judge-in .last .0) (c .before .before .before .before .judge-in .ensures .1 .0) _ (seat-back (c .before .before .before .before .before .before .before .before .before .before .before .before .before .before .before .before .before .before .before .before .before .before .before .before .before .before .before .before .before .args .room .now) (c .before .before .before .before .before .before .before .before .before .before .before .before .before .before .before .before .before .before .before .before .before .before .before .before .before .before .before .before .before .args .ticket .seat) (c .before .before .before .before .judge-in .last .0)) (c .before .before .before .before .judge-in .last .1 .1 .1 .0) (c .before .before .before .before .judge-in .ensures .1 .1)
+returns : tie.Need-returns
+returns c = gathered-submit (c .before .before .before .before .before .before .before .before .before .before .before .before .before .before .args .g) (simp length-map at (c .before .before .before .before .before .before .before .before .before .before .before .before .before .before .good .1 .0 .1 .1 .1 .0 .1 .0 .1)) (c .before .before .before .before .before .before .before .before .before .before .before .before .before .before .args .sheet .now) (c .before .before .before .before .before .before .before .before .before .before .before .before .before .before .args .sender) (c .before .before .before .before .before .before .before .before .before .fits2 .result) (c .before .before .before .before .before .before .before .look-among .result) (c .before .before .before .before .before .before .before .before .before .before .received-in .result) (c .before .before .before .before .before .before .before .before .asked-in .result) (c .before .before .before .before .before .before .before .before .before .fits2 .ensures) (c .before .before .before .before .before .before .before .before .before .before .received-in .ensures) (c .before .before .before .before .before .before .before .before .asked-in .ensures) (c .before .before .before .before .before .before .before .look-among .ensures) (c .before .before .before .before .before .before .before .before .before .before .before .before .before .before .args .ticket) (c .before .before .before .before .before .before .before .before .before .before .before .before .before .before .args .today) (c .before .before .before .before .before .before .before .before .before .before .before .before .before .before .args .slip .now) (c .before .before .before .before .before .before .before .before .before .before .before .before .before .before .args .room .now) (told (c .before .before .before .before .submit-found .result)) (c .before .before .before .before .submit-found .last .0) (c .before .before .before .before .submit-found .last .1 .1 .1 .1 .1 .1 .1 .0) (c .before .before .before .before .submit-found .ensures)
 
 pub submit-among-spec : {M : Type 1} → statement M
 submit-among-spec =
     tie.close
     (tie.spec
-    room-fits-requires
-    same-length
-    returns
+    received-in-requires
     fits-requires
+    asked-in-requires
+    look-among-requires
+    submit-found-requires
+    same-length
     same-length-2
-    returns-2
-    ticket-bad-requires
-    same-length-3
-    returns-3
-    is-date-requires
-    same-length-4
-    returns-4
-    same-length-5
-    returns-5
-    steps-in-requires
-    same-length-6
-    returns-6
-    receive-requires
-    enum-known-answer
-    enum-known-answer-2
-    enum-known-answer-3
-    case-of-requires
-    mul-from
-    add-to
-    mul-judge-in
-    sub-judge-in
-    part-judge-in-start
-    part-judge-in-end
-    judge-in-requires
-    same-length-7
-    returns-7
-    same-length-8
-    returns-8
-    same-length-9
-    same-length-10
-    returns-9)
+    returns)

@@ -1,43 +1,27 @@
--- The calls are those of the definition; a fit directory has no more records than a seat has places, so each owner that is found has one.
-use Rattle.judge.specs.Case.{caseOf}
-use Rattle.judge.proofs.Places.{records-few, debit-owner-fits, credit-owner-fits}
+-- What is looked up among the records is what the definition says of the message; a fit directory has no more records than a seat has places, so each
+-- owner that is found has one.
+use mathlib.Core.Path.{ap, _∙_}
+use Rattle.directory.specs.Gathering.{recordsIn}
+use Rattle.judge.specs.declared.case.Looked.{Looked}
+use Rattle.judge.specs.Case.{caseFrom, caseOf}
+use Rattle.judge.proofs.Lookups.{looked-with, looked-fit}
+use Rattle.judge.proofs.Places.{records-few}
 use Rattle.judge.proofs.case.case_of.Statement.{statement}
 use Rattle.judge.proofs.case.case_of.Tie as tie
 
-find-in-requires : tie.Need-find-in-requires
-find-in-requires c κs = tt
+asked-by-requires : tie.Need-asked-by-requires
+asked-by-requires c κs = tt
 
-find-as-requires : tie.Need-find-as-requires
-find-as-requires c κs = tt
+look-among-requires : tie.Need-look-among-requires
+look-among-requires c κs = tt
 
-find-as-requires-2 : tie.Need-find-as-requires-2
-find-as-requires-2 c κs = tt
-
-find-as-requires-3 : tie.Need-find-as-requires-3
-find-as-requires-3 c κs = tt
-
-debit-owner-requires : tie.Need-debit-owner-requires
-debit-owner-requires c κs = tt
-
-credit-owner-requires : tie.Need-credit-owner-requires
-credit-owner-requires c κs = tt
-
-movement-of-requires : tie.Need-movement-of-requires
-movement-of-requires c κs = (rw (c .before .debit-owner .ensures) (debit-owner-fits _ _ _ (records-few (c .before .before .before .before .before .before .before .before .args .g) (c .before .before .before .before .before .before .before .before .pre))), rw (c .credit-owner .ensures) (credit-owner-fits _ _ _ (records-few (c .before .before .before .before .before .before .before .before .args .g) (c .before .before .before .before .before .before .before .before .pre))))
+case-from-requires : tie.Need-case-from-requires
+case-from-requires c κs = looked-fit (recordsIn (c .before .before .args .g)) (c .before .before .args .sender) (c .before .before .args .m) (c .look-among .result) (looked-with (recordsIn (c .before .before .args .g)) (c .before .before .args .sender) (c .before .before .args .m) (c .before .asked-by .result) (c .look-among .result) (c .before .asked-by .ensures) (c .look-among .ensures)) (records-few (c .before .before .args .g) (c .before .before .pre))
 
 returns : tie.Need-returns
 unfolding caseOf
-returns c = rw (c .movement-of .ensures, c .before .credit-owner .ensures, c .before .before .debit-owner .ensures, c .before .before .before .find-as3 .ensures, c .before .before .before .before .find-as2 .ensures, c .before .before .before .before .before .find-as .ensures, c .before .before .before .before .before .before .find-in .ensures)
+returns c = c .case-from .ensures ∙ ap (λ (l : Looked). caseFrom l (c .before .before .before .args .sender) (c .before .before .before .args .today) (c .before .before .before .args .m)) (looked-with (recordsIn (c .before .before .before .args .g)) (c .before .before .before .args .sender) (c .before .before .before .args .m) (c .before .before .asked-by .result) (c .before .look-among .result) (c .before .before .asked-by .ensures) (c .before .look-among .ensures))
 
 pub case-of-spec : {M : Type 1} → statement M
 case-of-spec =
-    tie.close
-    (tie.spec
-    find-in-requires
-    find-as-requires
-    find-as-requires-2
-    find-as-requires-3
-    debit-owner-requires
-    credit-owner-requires
-    movement-of-requires
-    returns)
+    tie.close (tie.spec asked-by-requires look-among-requires case-from-requires returns)

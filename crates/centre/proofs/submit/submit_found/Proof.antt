@@ -1,0 +1,201 @@
+-- Each refusal has its place in the table; behind them all, what judging makes of the seat is put back in its place. What was looked up arises from a
+-- directory that is fit, so the message can be judged.
+use mathlib.Core.Path.{_≡_, refl, sym, _∙_}
+use mathlib.Core.Bool.{true, false, _&&_}
+use Prim.Native.Nat.{_<_}
+use native.Mathlib.Omega.{arith}
+use lib.Dec.{leb}
+use borrow.Author.Tests.{not-true, not-false}
+use Rattle.shape.specs.Dates.{isDate}
+use Rattle.slip.specs.Meaning.{seats, steps}
+use Rattle.directory.specs.Directory.{codeMost}
+use Rattle.layout.specs.Seat.{headOf, seatOf}
+use Rattle.seat.specs.Fit.{roomFits}
+use Rattle.seat.proofs.Rooms.{room-long, seat-lent}
+use Rattle.judge.specs.Case.{caseFrom}
+use Rattle.centre.specs.Calls.{ticketBad}
+use Rattle.centre.proofs.SubmitSought.{sought-arises, sought-fits}
+use Rattle.centre.proofs.Submitted.{
+  Passed,
+  ticket-seat,
+  numbers-bad,
+  numbers-good,
+  room-unfit,
+  directory-unfit,
+  no-ticket,
+  bad-number,
+  no-slip,
+  journal-full,
+  ill-formed,
+  bad-field,
+  can-judge,
+  judged,
+  seat-back,
+}
+use borrow.Author.Needs.{needs}
+use Rattle.centre.proofs.submit.submit_found.Statement.{statement}
+use Rattle.centre.proofs.submit.submit_found.Tie as tie
+
+-- what each test that was passed says
+room-good : (c : tie.Else1) → roomFits (c .before .before .before .before .before .args .room .now) ≡ true
+room-good c = sym (c .before .room-fits .ensures) ∙ not-false _ (c .if1 .left)
+
+ticket-right : (c : tie.Else3) → ticketBad (c .before .before .before .before .before .before .before .before .before .args .ticket) (c .before .before .before .before .before .before .before .before .before .args .room .now) ≡ false
+ticket-right c = sym (c .before .ticket-bad .ensures) ∙ c .if3 .left
+
+seat-low : (c : tie.Else3) → c .before .before .before .before .before .before .before .before .before .args .ticket .seat < seats
+seat-low c = ticket-seat (c .before .before .before .before .before .before .before .before .before .args .ticket) (c .before .before .before .before .before .before .before .before .before .args .room .now) (ticket-right c)
+
+numbers-right : (c : tie.Else4) → (leb (c .before .before .before .before .before .before .before .before .before .before .before .args .sender) codeMost && isDate (c .before .before .before .before .before .before .before .before .before .before .before .args .today)) ≡ true
+numbers-right c = numbers-good (c .before .before .before .before .before .before .before .before .before .before .before .args .sender) (c .before .before .before .before .before .before .before .before .before .before .before .args .today) (c .before .is-date .result) (c .before .is-date .ensures) (c .if4 .left)
+
+passed : (c : tie.Else6) → Passed (c .before .before .before .before .before .before .before .before .before .before .before .before .before .before .before .args .fit) (c .before .before .before .before .before .before .before .before .before .before .before .before .before .before .before .args .ticket) (c .before .before .before .before .before .before .before .before .before .before .before .before .before .before .before .args .sender) (c .before .before .before .before .before .before .before .before .before .before .before .before .before .before .before .args .today) (c .before .before .before .before .before .before .before .before .before .before .before .before .before .before .before .args .slip .now) (c .before .before .before .before .before .before .before .before .before .before .before .before .before .before .before .args .room .now)
+passed c = record {
+  room-fit = room-good (c .before .before .before .before .before .before .before .before .before .before);
+  directory-fit = not-false _ (c .before .before .before .before .before .before .before .before .before .if2 .left);
+  ticket-right = ticket-right (c .before .before .before .before .before .before);
+  numbers-right = numbers-right (c .before .before .before .before);
+  slip-long = c .before .before .before .if5 .left;
+  steps-left = λ (e : headOf (seatOf (c .before .before .before .before .before .before .before .before .before .before .before .before .before .before .before .args .room .now) (c .before .before .before .before .before .before .before .before .before .before .before .before .before .before .before .args .ticket .seat)) .steps ≡ steps). c .if6 .left (c .before .steps-in .ensures ∙ e);
+}
+
+room-fits-requires : tie.Need-room-fits-requires
+room-fits-requires c κs = tt
+
+same-length : tie.Need-same-length
+same-length c = refl
+
+returns : tie.Need-returns
+returns c = room-unfit (c .before .before .before .before .before .args .fit) (caseFrom (c .before .before .before .before .before .args .looked) (c .before .before .before .before .before .args .sender) (c .before .before .before .before .before .args .today)) (c .before .before .before .before .before .args .ticket) (c .before .before .before .before .before .args .sender) (c .before .before .before .before .before .args .today) (c .before .before .before .before .before .args .received) (c .before .before .before .before .before .args .slip .now) (c .before .before .before .before .before .args .room .now) (sym (c .before .room-fits .ensures) ∙ not-true _ (c .if1 .taken))
+
+same-length-2 : tie.Need-same-length-2
+same-length-2 c = refl
+
+returns-2 : tie.Need-returns-2
+returns-2 c = directory-unfit (c .before .before .before .before .before .before .args .fit) (caseFrom (c .before .before .before .before .before .before .args .looked) (c .before .before .before .before .before .before .args .sender) (c .before .before .before .before .before .before .args .today)) (c .before .before .before .before .before .before .args .ticket) (c .before .before .before .before .before .before .args .sender) (c .before .before .before .before .before .before .args .today) (c .before .before .before .before .before .before .args .received) (c .before .before .before .before .before .before .args .slip .now) (c .before .before .before .before .before .before .args .room .now) (room-good (c .before)) (not-true _ (c .if2 .taken))
+
+ticket-bad-requires : tie.Need-ticket-bad-requires
+ticket-bad-requires c κs = room-long (c .before .before .before .before .before .before .before .args .room .now) (room-good (c .before .before))
+
+same-length-3 : tie.Need-same-length-3
+same-length-3 c = refl
+
+returns-3 : tie.Need-returns-3
+returns-3 c = no-ticket (c .before .before .before .before .before .before .before .before .before .args .fit) (caseFrom (c .before .before .before .before .before .before .before .before .before .args .looked) (c .before .before .before .before .before .before .before .before .before .args .sender) (c .before .before .before .before .before .before .before .before .before .args .today)) (c .before .before .before .before .before .before .before .before .before .args .ticket) (c .before .before .before .before .before .before .before .before .before .args .sender) (c .before .before .before .before .before .before .before .before .before .args .today) (c .before .before .before .before .before .before .before .before .before .args .received) (c .before .before .before .before .before .before .before .before .before .args .slip .now) (c .before .before .before .before .before .before .before .before .before .args .room .now) (room-good (c .before .before .before .before)) (not-false _ (c .before .before .before .if2 .left)) (sym (c .before .ticket-bad .ensures) ∙ c .if3 .taken)
+
+is-date-requires : tie.Need-is-date-requires
+is-date-requires c κs = tt
+
+same-length-4 : tie.Need-same-length-4
+same-length-4 c = refl
+
+returns-4 : tie.Need-returns-4
+returns-4 c = bad-number (c .before .before .before .before .before .before .before .before .before .before .before .args .fit) (caseFrom (c .before .before .before .before .before .before .before .before .before .before .before .args .looked) (c .before .before .before .before .before .before .before .before .before .before .before .args .sender) (c .before .before .before .before .before .before .before .before .before .before .before .args .today)) (c .before .before .before .before .before .before .before .before .before .before .before .args .ticket) (c .before .before .before .before .before .before .before .before .before .before .before .args .sender) (c .before .before .before .before .before .before .before .before .before .before .before .args .today) (c .before .before .before .before .before .before .before .before .before .before .before .args .received) (c .before .before .before .before .before .before .before .before .before .before .before .args .slip .now) (c .before .before .before .before .before .before .before .before .before .before .before .args .room .now) (room-good (c .before .before .before .before .before .before)) (not-false _ (c .before .before .before .before .before .if2 .left)) (ticket-right (c .before .before)) (numbers-bad (c .before .before .before .before .before .before .before .before .before .before .before .args .sender) (c .before .before .before .before .before .before .before .before .before .before .before .args .today) (c .before .is-date .result) (c .before .is-date .ensures) (c .if4 .taken))
+
+same-length-5 : tie.Need-same-length-5
+same-length-5 c = refl
+
+returns-5 : tie.Need-returns-5
+returns-5 c = no-slip (c .before .before .before .before .before .before .before .before .before .before .before .before .args .fit) (caseFrom (c .before .before .before .before .before .before .before .before .before .before .before .before .args .looked) (c .before .before .before .before .before .before .before .before .before .before .before .before .args .sender) (c .before .before .before .before .before .before .before .before .before .before .before .before .args .today)) (c .before .before .before .before .before .before .before .before .before .before .before .before .args .ticket) (c .before .before .before .before .before .before .before .before .before .before .before .before .args .sender) (c .before .before .before .before .before .before .before .before .before .before .before .before .args .today) (c .before .before .before .before .before .before .before .before .before .before .before .before .args .received) (c .before .before .before .before .before .before .before .before .before .before .before .before .args .slip .now) (c .before .before .before .before .before .before .before .before .before .before .before .before .args .room .now) (room-good (c .before .before .before .before .before .before .before)) (not-false _ (c .before .before .before .before .before .before .if2 .left)) (ticket-right (c .before .before .before)) (numbers-right (c .before)) (c .if5 .taken)
+
+steps-in-requires : tie.Need-steps-in-requires
+steps-in-requires c κs = (room-long (c .before .before .before .before .before .before .before .before .before .before .before .before .before .args .room .now) (room-good (c .before .before .before .before .before .before .before .before)), seat-low (c .before .before .before .before))
+
+same-length-6 : tie.Need-same-length-6
+same-length-6 c = refl
+
+returns-6 : tie.Need-returns-6
+returns-6 c = journal-full (c .before .before .before .before .before .before .before .before .before .before .before .before .before .before .before .args .fit) (caseFrom (c .before .before .before .before .before .before .before .before .before .before .before .before .before .before .before .args .looked) (c .before .before .before .before .before .before .before .before .before .before .before .before .before .before .before .args .sender) (c .before .before .before .before .before .before .before .before .before .before .before .before .before .before .before .args .today)) (c .before .before .before .before .before .before .before .before .before .before .before .before .before .before .before .args .ticket) (c .before .before .before .before .before .before .before .before .before .before .before .before .before .before .before .args .sender) (c .before .before .before .before .before .before .before .before .before .before .before .before .before .before .before .args .today) (c .before .before .before .before .before .before .before .before .before .before .before .before .before .before .before .args .received) (c .before .before .before .before .before .before .before .before .before .before .before .before .before .before .before .args .slip .now) (c .before .before .before .before .before .before .before .before .before .before .before .before .before .before .before .args .room .now) (room-good (c .before .before .before .before .before .before .before .before .before .before)) (not-false _ (c .before .before .before .before .before .before .before .before .before .if2 .left)) (ticket-right (c .before .before .before .before .before .before)) (numbers-right (c .before .before .before .before)) (c .before .before .before .if5 .left) (sym (c .before .steps-in .ensures) ∙ c .if6 .taken)
+
+enum-known-received : tie.Need-enum-known-received
+enum-known-received c = search needs
+
+enum-known-received-2 : tie.Need-enum-known-received-2
+enum-known-received-2 c = search needs
+
+enum-known-received-3 : tie.Need-enum-known-received-3
+enum-known-received-3 c = search needs
+
+case-from-requires : tie.Need-case-from-requires
+case-from-requires c κs = sought-fits (c .before .before .before .before .before .before .before .before .before .before .before .before .before .before .before .before .before .before .pre) (not-false _ (c .before .before .before .before .before .before .before .before .before .before .before .before .if2 .left)) (c .before .received3 .given .0 .0) (c .before .received3 .given .1)
+
+mul-from : tie.Need-mul-from
+mul-from c = omega (arith, seat-low (c .before .before .before .before .before .before .before .before .before .before))
+
+add-to : tie.Need-add-to
+add-to c = omega (arith, seat-low (c .before .before .before .before .before .before .before .before .before .before))
+
+mul-judge-in : tie.Need-mul-judge-in
+mul-judge-in c = omega (arith, seat-low (c .before .before .before .before .before .before .before .before .before .before))
+
+sub-judge-in : tie.Need-sub-judge-in
+sub-judge-in c = omega arith
+
+part-judge-in-start : tie.Need-part-judge-in-start
+part-judge-in-start c = omega arith
+
+part-judge-in-end : tie.Need-part-judge-in-end
+part-judge-in-end c = omega (arith, seat-low (c .before .before .before .before .before .before .before .before .before .before), room-long (c .before .before .before .before .before .before .before .before .before .before .before .before .before .before .before .before .before .before .before .args .room .now) (room-good (c .before .before .before .before .before .before .before .before .before .before .before .before .before .before)))
+
+judge-in-requires : tie.Need-judge-in-requires
+judge-in-requires c κs = can-judge (passed (c .before .before .before .before .before .before)) (caseFrom (c .before .before .before .before .before .before .before .before .before .before .before .before .before .before .before .before .before .before .before .before .before .args .looked) (c .before .before .before .before .before .before .before .before .before .before .before .before .before .before .before .before .before .before .before .before .before .args .sender) (c .before .before .before .before .before .before .before .before .before .before .before .before .before .before .before .before .before .before .before .before .before .args .today)) (c .before .before .before .before .before .before .before .before .before .before .before .before .before .before .before .before .before .before .before .before .before .args .received) (c .before .before .before .before .received3 .given .0 .0) (c .before .before .before .before .received3 .given .1) (sought-arises (c .before .before .before .before .before .before .before .before .before .before .before .before .before .before .before .before .before .before .before .before .before .pre) (not-false _ (c .before .before .before .before .before .before .before .before .before .before .before .before .before .before .before .if2 .left)) (c .before .before .before .before .received3 .given .0 .0) (c .before .before .before .before .received3 .given .1) (c .before .before .before .before .before .before .before .before .before .before .before .before .before .before .before .before .before .before .before .before .before .args .today) (numbers-right (c .before .before .before .before .before .before .before .before .before .before))) (c .before .before .case-from .result) (c .before .before .case-from .ensures) _ (seat-lent (c .before .before .before .before .before .before .before .before .before .before .before .before .before .before .before .before .before .before .before .before .before .args .room .now) (c .before .before .before .before .before .before .before .before .before .before .before .before .before .before .before .before .before .before .before .before .before .args .ticket .seat))
+
+same-length-7 : tie.Need-same-length-7
+same-length-7 c = refl
+
+returns-7 : tie.Need-returns-7
+returns-7 c = ill-formed (passed (c .before .before .before)) (caseFrom (c .before .before .before .before .before .before .before .before .before .before .before .before .before .before .before .before .before .before .args .looked) (c .before .before .before .before .before .before .before .before .before .before .before .before .before .before .before .before .before .before .args .sender) (c .before .before .before .before .before .before .before .before .before .before .before .before .before .before .before .before .before .before .args .today)) (c .before .before .before .before .before .before .before .before .before .before .before .before .before .before .before .before .before .before .args .received) (c .before .received .given .0 .0) (c .before .received .given .1)
+
+same-length-8 : tie.Need-same-length-8
+same-length-8 c = refl
+
+returns-8 : tie.Need-returns-8
+returns-8 c = bad-field (passed (c .before .before .before)) (caseFrom (c .before .before .before .before .before .before .before .before .before .before .before .before .before .before .before .before .before .before .args .looked) (c .before .before .before .before .before .before .before .before .before .before .before .before .before .before .before .before .before .before .args .sender) (c .before .before .before .before .before .before .before .before .before .before .before .before .before .before .before .before .before .before .args .today)) (c .before .before .before .before .before .before .before .before .before .before .before .before .before .before .before .before .before .before .args .received) (c .before .received2 .given .0 .0) (c .before .received2 .given .1)
+
+same-length-9 : tie.Need-same-length-9
+same-length-9 c = search needs
+
+same-length-10 : tie.Need-same-length-10
+same-length-10 c = search needs
+
+returns-9 : tie.Need-returns-9
+returns-9 c = judged (passed (c .before .before .before .before .before .before .before .before .before .before .before)) (caseFrom (c .before .before .before .before .before .before .before .before .before .before .before .before .before .before .before .before .before .before .before .before .before .before .before .before .before .before .args .looked) (c .before .before .before .before .before .before .before .before .before .before .before .before .before .before .before .before .before .before .before .before .before .before .before .before .before .before .args .sender) (c .before .before .before .before .before .before .before .before .before .before .before .before .before .before .before .before .before .before .before .before .before .before .before .before .before .before .args .today)) (c .before .before .before .before .before .before .before .before .before .before .before .before .before .before .before .before .before .before .before .before .before .before .before .before .before .before .args .received) (c .before .before .before .before .before .before .before .before .before .received3 .given .0 .0) (c .before .before .before .before .before .before .before .before .before .received3 .given .1) (c .before .before .before .before .before .before .before .case-from .result) (c .before .before .before .before .before .before .before .case-from .ensures) _ (seat-lent (c .before .before .before .before .before .before .before .before .before .before .before .before .before .before .before .before .before .before .before .before .before .before .before .before .before .before .args .room .now) (c .before .before .before .before .before .before .before .before .before .before .before .before .before .before .before .before .before .before .before .before .before .before .before .before .before .before .args .ticket .seat)) (c .before .before .before .before .judge-in .result) (c .before .before .before .before .judge-in .ensures .0) (c .before .before .before .before .judge-in .last .0) (c .before .before .before .before .judge-in .ensures .1 .0) _ (seat-back (c .before .before .before .before .before .before .before .before .before .before .before .before .before .before .before .before .before .before .before .before .before .before .before .before .before .before .args .room .now) (c .before .before .before .before .before .before .before .before .before .before .before .before .before .before .before .before .before .before .before .before .before .before .before .before .before .before .args .ticket .seat) (c .before .before .before .before .judge-in .last .0)) (c .before .before .before .before .judge-in .last .1 .1 .1 .0) (c .before .before .before .before .judge-in .ensures .1 .1)
+
+pub submit-found-spec : {M : Type 1} → statement M
+submit-found-spec =
+    tie.close
+    (tie.spec
+    room-fits-requires
+    same-length
+    returns
+    same-length-2
+    returns-2
+    ticket-bad-requires
+    same-length-3
+    returns-3
+    is-date-requires
+    same-length-4
+    returns-4
+    same-length-5
+    returns-5
+    steps-in-requires
+    same-length-6
+    returns-6
+    enum-known-received
+    enum-known-received-2
+    enum-known-received-3
+    case-from-requires
+    mul-from
+    add-to
+    mul-judge-in
+    sub-judge-in
+    part-judge-in-start
+    part-judge-in-end
+    judge-in-requires
+    same-length-7
+    returns-7
+    same-length-8
+    returns-8
+    same-length-9
+    same-length-10
+    returns-9)

@@ -1,0 +1,4 @@
+pub mod Banks
+pub mod Ends
+pub mod Digits
+pub mod Lines

@@ -1,0 +1,130 @@
+// What is seen of a seat: its balances before and behind a call, how many steps it has, and the kind of its last one.
+use crate::show::put;
+use crate::show::put_code;
+use crate::show::put_next;
+use crate::show::put_number;
+use crate::show::put_sum;
+use directory::Gathered;
+use layout::ACCOUNTS;
+use layout::SEAT_LONG;
+use layout::account;
+use layout::head;
+use layout::step;
+use slip::SEATS;
+use slip::STEPS;
+
+// What is seen: zeros where there is no such seat.
+pub struct Sight {
+    pub balances: [u64; 32],
+    pub steps: u64,
+    pub kind: u64,
+}
+
+fn nothing() -> Sight {
+    Sight {
+        balances: [0u64; 32],
+        steps: 0,
+        kind: 0,
+    }
+}
+
+fn balances_in(s: &[u64]) -> [u64; 32] {
+    let mut balances = [0u64; ACCOUNTS];
+    if s.len() != SEAT_LONG {
+        return balances;
+    }
+    let mut i = 0;
+    while i < ACCOUNTS {
+        let a = account(s, i);
+        balances[i] = a.balance;
+        i += 1;
+    }
+    balances
+}
+
+// The kind of the last of so many steps, 0 where there is none.
+fn last_kind(s: &[u64], steps: u64) -> u64 {
+    if s.len() != SEAT_LONG {
+        return 0;
+    }
+    if steps == 0 {
+        return 0;
+    }
+    if STEPS < steps {
+        return 0;
+    }
+    let x = step(s, (steps - 1) as usize);
+    x.kind
+}
+
+fn seen_in(s: &[u64]) -> Sight {
+    if s.len() != SEAT_LONG {
+        return nothing();
+    }
+    let h = head(s);
+    Sight {
+        balances: balances_in(s),
+        steps: h.steps,
+        kind: last_kind(s, h.steps),
+    }
+}
+
+// What is seen of a seat of the room.
+pub fn seen(room: &[u64], seat: u64) -> Sight {
+    if SEATS <= seat {
+        return nothing();
+    }
+    let from = SEAT_LONG * seat as usize;
+    let to = from + SEAT_LONG;
+    if room.len() < to {
+        return nothing();
+    }
+    seen_in(&room[from..to])
+}
+
+// An account by its number in a seat, with the code of the bank that owns it.
+fn put_name(g: Gathered, i: usize) {
+    let records = g.records;
+    let place = i / 2;
+    if 16 <= place {
+        return;
+    }
+    let owner = records[place];
+    put_next();
+    put_code(owner.code);
+    put(b" account ");
+    put_number((i % 2 + 1) as u64);
+    put(b": ");
+}
+
+// The balances that a call changed.
+pub fn put_changes(g: Gathered, before: [u64; 32], after: [u64; 32]) {
+    let mut changed = false;
+    let mut i = 0;
+    while i < ACCOUNTS {
+        if before[i] != after[i] {
+            put_name(g, i);
+            put_sum(before[i]);
+            put(b" -> ");
+            put_sum(after[i]);
+            changed = true;
+        }
+        i += 1;
+    }
+    if !changed {
+        put_next();
+        put(b"no balance changed");
+    }
+}
+
+// The balances that are not zero.
+pub fn put_balances(g: Gathered, balances: [u64; 32]) {
+    let mut i = 0;
+    while i < ACCOUNTS {
+        if balances[i] != 0 {
+            put_name(g, i);
+            put_sum(balances[i]);
+        }
+        i += 1;
+    }
+}

@@ -1,0 +1,112 @@
+// The kind of a message and the fields of each kind, for a refusal by 8. The paths are those of document 01, "Fields".
+use crate::show::part;
+use crate::show::put;
+use crate::show::put_number;
+use crate::show::put_row;
+use check::same;
+use table::Kind;
+ghost use Prim.Native.Nat.{_<_, _≤_};
+
+// The fields of pacs.008, of camt.050 and of pacs.028, in their order, blanks behind.
+const PATHS: [[u8; 57]; 28] = [
+    *b"GrpHdr/MsgId                                             ",
+    *b"GrpHdr/CreDtTm                                           ",
+    *b"GrpHdr/InstgAgt/FinInstnId/ClrSysMmbId/MmbId             ",
+    *b"GrpHdr/InstdAgt/FinInstnId/ClrSysMmbId/MmbId             ",
+    *b"CdtTrfTxInf/PmtId/EndToEndId                             ",
+    *b"CdtTrfTxInf/PmtId/UETR                                   ",
+    *b"CdtTrfTxInf/IntrBkSttlmAmt                               ",
+    *b"CdtTrfTxInf/PrvsInstgAgt1/FinInstnId/ClrSysMmbId/MmbId   ",
+    *b"CdtTrfTxInf/DbtrAgt/FinInstnId/ClrSysMmbId/ClrSysId/Prtry",
+    *b"CdtTrfTxInf/DbtrAgt/FinInstnId/ClrSysMmbId/MmbId         ",
+    *b"CdtTrfTxInf/DbtrAcct/Id/IBAN                             ",
+    *b"CdtTrfTxInf/CdtrAgt/FinInstnId/ClrSysMmbId/ClrSysId/Prtry",
+    *b"CdtTrfTxInf/CdtrAgt/FinInstnId/ClrSysMmbId/MmbId         ",
+    *b"CdtTrfTxInf/CdtrAcct/Id/IBAN                             ",
+    *b"MsgHdr/MsgId                                             ",
+    *b"MsgHdr/CreDtTm                                           ",
+    *b"LqdyCdtTrf/LqdyTrfId/UETR                                ",
+    *b"LqdyCdtTrf/LqdyTrfId/TrfdAmt                             ",
+    *b"LqdyCdtTrf/LqdyTrfId/DbtrAcct/Id/Othr/Id                 ",
+    *b"LqdyCdtTrf/LqdyTrfId/CdtrAcct/Id/Othr/Id                 ",
+    *b"GrpHdr/MsgId                                             ",
+    *b"GrpHdr/CreDtTm                                           ",
+    *b"GrpHdr/InstgAgt/FinInstnId/ClrSysMmbId/MmbId             ",
+    *b"TxInf/OrgnlGrpInf/OrgnlMsgId                             ",
+    *b"TxInf/OrgnlGrpInf/OrgnlMsgNmId                           ",
+    *b"TxInf/OrgnlGrpInf/OrgnlCreDtTm                           ",
+    *b"TxInf/OrgnlUETR                                          ",
+    *b"TxInf/OrgnlEndToEndId                                    ",
+];
+
+fn path(place: usize) -> [u8; 57]
+    requires { ⌜ place < 28 ⌝ }
+{
+    PATHS[place]
+}
+
+fn begins(s: &[u8], front: &[u8]) -> bool {
+    same(part(s, 0, front.len()), front)
+}
+
+// The kind that a known message's sheet begins with.
+pub fn kind_in(sheet: &[u8]) -> Kind {
+    if begins(sheet, b"<Document><LqdyCdtTrf") {
+        return Kind::Camt050;
+    }
+    if begins(sheet, b"<Document><FIToFIPmtStsReq") {
+        return Kind::Pacs028;
+    }
+    Kind::Pacs008
+}
+
+pub fn put_kind(kind: Kind) {
+    match kind {
+        Kind::Pacs008 => put(b"pacs.008"),
+        Kind::Camt050 => put(b"camt.050"),
+        Kind::Pacs028 => put(b"pacs.028"),
+    }
+}
+
+// Where the fields of a kind begin among all.
+fn first_of(kind: Kind) -> usize
+    ensures { λ r. ⌜ r ≤ 20 ⌝ }
+{
+    match kind {
+        Kind::Pacs008 => 0,
+        Kind::Camt050 => 14,
+        Kind::Pacs028 => 20,
+    }
+}
+
+fn put_path(kind: Kind, number: usize) {
+    if number < 1 {
+        return;
+    }
+    if 14 < number {
+        return;
+    }
+    let place = first_of(kind) + number - 1;
+    if place < 28 {
+        let text = path(place);
+        put_row(&text);
+    }
+}
+
+// The field that a message was refused for by 8.
+pub fn put_field(sheet: &[u8], number: usize) {
+    if number == 0 {
+        put(
+            b"refused 8, field 0: the message is unknown; it must be a Document that holds one pacs.008, camt.050 or pacs.028",
+        );
+        return;
+    }
+    let kind = kind_in(sheet);
+    put(b"refused 8, field ");
+    put_number(number as u64);
+    put(b" of ");
+    put_kind(kind);
+    put(b" (");
+    put_path(kind, number);
+    put(b"): missing, there twice, or not of its shape");
+}
