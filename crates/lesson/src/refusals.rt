@@ -43,7 +43,9 @@ fn put_bad_number(word: Word) {
 fn put_ill_formed(place: usize) {
     put(b"refused 7 at place ");
     put_number(place as u64);
-    put(b": the sheet is not well formed; before that place all is right, there it goes wrong or ends too soon");
+    put(
+        b": the sheet is not well formed; before that place all is right, there it goes wrong or ends too soon",
+    );
 }
 
 // 12: the check, with the codes of the sheet's kind.
