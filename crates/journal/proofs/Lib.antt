@@ -6,6 +6,7 @@ pub mod Moves
 pub mod Settings
 pub mod Settled
 pub mod StepLaws
+pub mod StoredLaws
 pub mod Sums
 pub mod TraceLaws
 pub mod WorkedLaws

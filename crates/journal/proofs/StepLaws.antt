@@ -3,10 +3,13 @@
 use mathlib.Core.Path.{_≡_, refl, sym, ap, subst, _∙_}
 use mathlib.Core.Bool.{Bool, true, false, _&&_, cond}
 use mathlib.Core.List.{List}
-use Prim.Native.Nat.{ℕ, _≤_, _<_}
+use Prim.Native.Nat.{ℕ, _+_, _≤_, _<_}
 use lib.Dec.{leb, ltb, eqb}
-use lib.ListN.{length, take}
+use native.Mathlib.Omega.{arith}
+use lib.ListN.{length, take, drop, length-drop}
+use lib.Seq.{take-all}
 use borrow.Author.Tests.{ltb-true, leb-true, eqb-true, eq-eqb}
+use Rattle.shape.specs.Bytes.{every}
 use Rattle.shape.specs.Dates.{isTime}
 use Rattle.shape.specs.Fields.{isIdentifier}
 use Rattle.shape.specs.Stored.{identifierOf, allBytes, identifierText, storedText, isUetr, uetrOf}
@@ -38,6 +41,18 @@ module _ (t : Text) (x : Identifier) (e : t ≡ storedText x) where
   pub text-long : t .length ≡ length (take (t .length) (t .bytes))
   unfolding storedText
   text-long = ap (λ (u : Text). u .length) e ∙ ap length (sym text-part)
+
+  pub text-whole : length (t .bytes) ≡ 35
+  unfolding storedText allBytes
+  text-whole = ap (λ (u : Text). length (u .bytes)) e
+
+  -- what stands behind it
+  pub text-behind : (m : ℕ) → 35 ≤ t .length + m
+      → (f : ℕ → Bool) → every f (take m (drop (t .length) (t .bytes))) ≡ true → every f (drop (length (identifierText x)) (allBytes x)) ≡ true
+  unfolding storedText
+  text-behind m h f z =
+      let short : length (drop (t .length) (t .bytes)) ≤ m = rw (length-drop (t .length) (t .bytes)) (omega (arith, text-whole)) in
+      subst (λ (u : Text). every f (drop (u .length) (u .bytes)) ≡ true) e (ap (every f) (sym (take-all m (drop (t .length) (t .bytes)) short)) ∙ z)
 
 -- what an identifier is stored as fits
 pub stored-fits : (s : List ℕ) → isIdentifier s ≡ true → isStored (identifierOf s) ≡ true

@@ -11,6 +11,10 @@ use shape::stored::same_identifier;
 use shape::stored::text_of;
 use slip::can_say;
 ghost use mathlib.Core.Path.{_≡_};
+ghost use mathlib.Core.Bool.{_&&_};
+ghost use Prim.Native.Nat.{ℕ};
+ghost use lib.Dec.{leb, eqb};
+ghost use Rattle.shape.specs.Bytes.{every};
 ghost use Rattle.journal.specs.Steps.{settingsFit, sameSettings, noSettings, noIdentifier, isStored, isStoredUetr, noMessage, noMovement, noSet, setFits, carriedOut, between, movementFits, referenceFits, messageFits, stepFits, noStep};
 
 // The kinds of steps by number.
@@ -24,6 +28,9 @@ pub const SET: u64 = 4;
 pub const SUM_MOST: u64 = 1000000000000000;
 
 pub const AMOUNT_MOST: u64 = 9999999999999;
+
+// The highest number of seven bytes.
+const SEVEN_MOST: u64 = 72057594037927935;
 
 pub fn no_settings() -> Settings
     ensures { λ r. ⌜ r ≡ noSettings ⌝ }
@@ -82,7 +89,33 @@ pub fn same_settings(x: Settings, y: Settings) -> bool
     (x.out == y.out) & (x.into == y.into) & (x.ltk == y.ltk) & (x.lpo == y.lpo)
 }
 
-// Whether an identifier is stored so: the text that stands there is one, and is stored as these very numbers.
+// Whether there are zeros alone.
+fn all_zeros(s: &[u8]) -> bool
+    ensures { λ r. ⌜ r ≡ every (λ (b : ℕ). eqb b 0) (now (s .entry)) ⌝ }
+{
+    let mut i = 0;
+    while i < s.len() {
+        if s[i] != 0 {
+            return false;
+        }
+        i += 1;
+    }
+    true
+}
+
+// Whether each number has seven bytes.
+fn is_low(x: Identifier) -> bool
+    ensures { λ r. ⌜ r ≡ (leb (x .first) 72057594037927935 && leb (x .second) 72057594037927935 && leb (x .third) 72057594037927935 && leb (x .fourth) 72057594037927935 && leb (x .fifth) 72057594037927935) ⌝ }
+{
+    (x.first <= SEVEN_MOST)
+        & (x.second <= SEVEN_MOST)
+        & (x.third <= SEVEN_MOST)
+        & (x.fourth <= SEVEN_MOST)
+        & (x.fifth <= SEVEN_MOST)
+}
+
+// Whether an identifier is stored so: the text that stands there is one, and is stored as these very numbers. They are those where nothing
+// stands above seven bytes nor behind the text; so it is in a fit room, and the text need not be stored again.
 fn is_stored(x: Identifier) -> bool
     ensures { λ r. ⌜ r ≡ isStored x ⌝ }
 {
@@ -92,7 +125,13 @@ fn is_stored(x: Identifier) -> bool
     if 35 < length {
         return false;
     }
-    is_identifier(&bytes[..length]) & same_identifier(identifier_of(&bytes[..length]), x)
+    if !is_identifier(&bytes[..length]) {
+        return false;
+    }
+    if is_low(x) & all_zeros(&bytes[length..]) {
+        return true;
+    }
+    same_identifier(identifier_of(&bytes[..length]), x)
 }
 
 // Whether a UETR is stored so: the version's digit is 4 and the variant's 8 to b.

@@ -67,3 +67,12 @@ firsts-from v h = from-first 2 firsts refl v h
 pub firsts-low : (v : ℕ) → v < 74 → getD firsts v 0 ≤ 73
 unfolding firsts
 firsts-low v h = leb-true (getD firsts v 0) 73 (at-place (λ (x : ℕ). leb x 73) firsts 0 refl v h)
+
+-- how many entries the tables have
+pub names-count : length names ≡ 73
+unfolding names
+names-count = refl
+
+pub firsts-count : length firsts ≡ 74
+unfolding firsts
+firsts-count = refl

@@ -8,6 +8,8 @@ use outline::name_at;
 use outline::names_around;
 use sheet::read;
 use tree::ABOVE;
+use tree::all_firsts;
+use tree::all_names;
 use tree::child;
 ghost use mathlib.Core.Path.{_≡_};
 ghost use mathlib.Core.Bool.{cond};
@@ -55,6 +57,8 @@ fn walk(s: &[u8], count: usize, starts: &[usize; 256], depths: &[usize; 256]) ->
     requires { ⌜ (count ≤ 256) × (256 ≤ length (now starts)) × (256 ≤ length (now depths)) ⌝ }
     ensures { λ r. ⌜ r ≡ seenFrom (now (s .entry)) [] (take count (now (starts .entry))) (take count (now (depths .entry))) unseen ⌝ }
 {
+    let names = all_names();
+    let firsts = all_firsts();
     let mut stack = [ABOVE; 257];
     let mut level = 0;
     let mut bodies = 0;
@@ -64,7 +68,7 @@ fn walk(s: &[u8], count: usize, starts: &[usize; 256], depths: &[usize; 256]) ->
     while k < count {
         let start = starts[k];
         level = names_around(depths[k], level);
-        let node = child(stack[level], name_at(s, start));
+        let node = child(&names, &firsts, stack[level], name_at(s, start));
         level += 1;
         stack[level] = node;
         bodies += is_body(level);

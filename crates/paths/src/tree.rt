@@ -167,30 +167,43 @@ const FIRSTS: [usize; 74] = [
     73,
 ];
 
-fn line(node: usize) -> [u8; 18]
-    requires { ⌜ node < 73 ⌝ }
-    ensures { λ r. ⌜ r ≡ getD names node [] ⌝ }
+// Both tables as values: they are written out anew wherever one is asked for, so a survey asks once and lends them.
+pub fn all_names() -> [[u8; 18]; 73]
+    ensures { λ r. ⌜ r ≡ names ⌝ }
 {
-    NAMES[node]
+    NAMES
 }
 
-fn first(node: usize) -> usize
-    requires { ⌜ node < 74 ⌝ }
+pub fn all_firsts() -> [usize; 74]
+    ensures { λ r. ⌜ r ≡ firsts ⌝ }
+{
+    FIRSTS
+}
+
+fn line(lines: &[[u8; 18]; 73], node: usize) -> [u8; 18]
+    requires { ⌜ (now lines ≡ names) × (node < 73) ⌝ }
+    ensures { λ r. ⌜ r ≡ getD names node [] ⌝ }
+{
+    lines[node]
+}
+
+fn first(starts: &[usize; 74], node: usize) -> usize
+    requires { ⌜ (now starts ≡ firsts) × (node < 74) ⌝ }
     ensures { λ r. ⌜ r ≡ getD firsts node 0 ⌝ }
     ensures { λ r. ⌜ r ≤ 73 ⌝ }
 {
-    FIRSTS[node]
+    starts[node]
 }
 
 // Whether a name is the node's. A blank ends the node's name and is in no other.
-fn is_named(node: usize, name: &[u8]) -> bool
-    requires { ⌜ node < 73 ⌝ }
+fn is_named(lines: &[[u8; 18]; 73], node: usize, name: &[u8]) -> bool
+    requires { ⌜ (now lines ≡ names) × (node < 73) ⌝ }
     ensures { λ r. ⌜ r ≡ sameName (nameOf node) (now (name .entry)) ⌝ }
 {
     if 17 < name.len() {
         return false;
     }
-    let l = line(node);
+    let l = line(lines, node);
     let mut i = 0;
     while i < name.len() {
         let b = name[i];
@@ -203,15 +216,15 @@ fn is_named(node: usize, name: &[u8]) -> bool
 }
 
 // The node of a name below a node, or nowhere.
-pub fn child(node: usize, name: &[u8]) -> usize
-    requires { ⌜ node < 73 ⌝ }
+pub fn child(lines: &[[u8; 18]; 73], starts: &[usize; 74], node: usize, name: &[u8]) -> usize
+    requires { ⌜ (now lines ≡ names) × (now starts ≡ firsts) × (node < 73) ⌝ }
     ensures { λ r. ⌜ r ≡ childOf node (now (name .entry)) ⌝ }
     ensures { λ r. ⌜ r < 73 ⌝ }
 {
-    let end = first(node + 1);
-    let mut below = first(node);
+    let end = first(starts, node + 1);
+    let mut below = first(starts, node);
     while below < end {
-        if is_named(below, name) {
+        if is_named(lines, below, name) {
             return below;
         }
         below += 1;

@@ -77,17 +77,32 @@ pub fn can_appear(kind: Kind, check: u64) -> bool
 pub fn can_end(kind: Kind, status: u64, check: u64) -> bool
     ensures { λ r. ⌜ r ≡ endsWith kind status check ⌝ }
 {
-    ((status == 1) & (check == 0)) | ((status == 2) & can_appear(kind, check))
+    if status == 1 {
+        return check == 0;
+    }
+    if status != 2 {
+        return false;
+    }
+    can_appear(kind, check)
 }
 
 // Whether a slip of a kind can say this.
 pub fn can_say(kind: u64, status: u64, check: u64) -> bool
     ensures { λ r. ⌜ r ≡ says kind status check ⌝ }
 {
-    let paid = can_end(Kind::Pacs008, status, check);
-    let moved = can_end(Kind::Camt050, status, check);
-    let pending = (status == 0) & can_appear(Kind::Pacs028, check);
-    ((kind == 1) & paid) | ((kind == 2) & moved) | ((kind == 3) & (pending | paid))
+    if kind == 1 {
+        return can_end(Kind::Pacs008, status, check);
+    }
+    if kind == 2 {
+        return can_end(Kind::Camt050, status, check);
+    }
+    if kind != 3 {
+        return false;
+    }
+    if status == 0 {
+        return can_appear(Kind::Pacs028, check);
+    }
+    can_end(Kind::Pacs008, status, check)
 }
 
 // Whether the six values are those of a slip.

@@ -1,4 +1,4 @@
 pub mod Lines
-pub mod Orders
+pub mod Ranges
 pub mod Rules
 pub mod Settled

@@ -25,7 +25,7 @@ abbrev pub isCode : List ℕ → Bool
 isCode s = eqb (length s) 4 && every isDigitOrCapital s
 
 -- law: what is tested of so many numbers from a on holds of each of them
-counted : (f : ℕ → Bool) (a m : ℕ) → every f (from a m) ≡ true → (n : ℕ) → a ≤ n → n < a + m → f n ≡ true
+pub counted : (f : ℕ → Bool) (a m : ℕ) → every f (from a m) ≡ true → (n : ℕ) → a ≤ n → n < a + m → f n ≡ true
 counted f a zero t n h k = absurd (omega arith)
 counted f a (suc m) t n h k =
     ⊎-elim (λ (e : a ≡ n). subst (λ (x : ℕ). f x ≡ true) e (and-left (f a) (every f (from (suc a) m)) t))

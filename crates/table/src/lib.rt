@@ -2,8 +2,9 @@
 // It knows nothing of when a check fails. The definitions stand in `specs/Checks.antt`; docs/CHECKS.md says what each check means.
 ghost use mathlib.Core.Path.{_≡_};
 ghost use mathlib.Core.List.{[]};
-ghost use Prim.Native.Nat.{_<_};
+ghost use Prim.Native.Nat.{_<_, _≤_};
 ghost use lib.ListN.{length, getD};
+ghost use Rattle.table.specs.declared.Kind.the-variants.{Pacs008, Camt050, Pacs028};
 ghost use Rattle.table.specs.Checks.{checks, lineOf, sepOf, isoOf, orderOf, runs};
 
 // The kinds of messages.
@@ -54,7 +55,8 @@ const CHECKS: [[u8; 12]; 34] = [
     *b"34 T003 AC03",
 ];
 
-const PACS_008: [u64; 23] = [
+// The orders. They are written out anew wherever one is looked up, so they are bytes.
+const PACS_008: [u8; 23] = [
     1,
     2,
     3,
@@ -80,7 +82,7 @@ const PACS_008: [u64; 23] = [
     24,
 ];
 
-const CAMT_050: [u64; 20] = [
+const CAMT_050: [u8; 20] = [
     1,
     2,
     3,
@@ -103,7 +105,7 @@ const CAMT_050: [u64; 20] = [
     24,
 ];
 
-const PACS_028: [u64; 10] = [1, 2, 3, 5, 6, 7, 8, 9, 10, 11];
+const PACS_028: [u8; 10] = [1, 2, 3, 5, 6, 7, 8, 9, 10, 11];
 
 fn line_at(place: usize) -> [u8; 12]
     requires { ⌜ place < 34 ⌝ }
@@ -157,11 +159,11 @@ pub fn order_length(kind: Kind) -> usize
 }
 
 // The number at a place, 0 past the end.
-fn entry(order: &[u64], place: usize) -> u64
+fn entry(order: &[u8], place: usize) -> u64
     ensures { λ r. ⌜ r ≡ getD (now (order .entry)) place 0 ⌝ }
 {
     if place < order.len() {
-        return order[place];
+        return order[place] as u64;
     }
     0
 }
@@ -177,17 +179,41 @@ pub fn order_at(kind: Kind, place: usize) -> u64
     }
 }
 
+// Whether a number up to that of the last check is among the checks of pacs.008, camt.050 or pacs.028.
+fn in_pacs_008(number: u64) -> bool
+    requires { ⌜ number ≤ 34 ⌝ }
+    ensures { λ r. ⌜ r ≡ runs Pacs008 number ⌝ }
+{
+    ((1 <= number) & (number <= 3))
+        | ((5 <= number) & (number <= 8))
+        | (number == 17)
+        | (20 <= number)
+}
+
+fn in_camt_050(number: u64) -> bool
+    requires { ⌜ number ≤ 34 ⌝ }
+    ensures { λ r. ⌜ r ≡ runs Camt050 number ⌝ }
+{
+    ((1 <= number) & (number <= 7)) | ((12 <= number) & (number <= 24))
+}
+
+fn in_pacs_028(number: u64) -> bool
+    requires { ⌜ number ≤ 34 ⌝ }
+    ensures { λ r. ⌜ r ≡ runs Pacs028 number ⌝ }
+{
+    ((1 <= number) & (number <= 3)) | ((5 <= number) & (number <= 11))
+}
+
 // Whether a check is one of a kind's.
 pub fn in_order(kind: Kind, number: u64) -> bool
     ensures { λ r. ⌜ r ≡ runs kind number ⌝ }
 {
-    let n = order_length(kind);
-    let mut i = 0;
-    while i < n {
-        if order_at(kind, i) == number {
-            return true;
-        }
-        i += 1;
+    if 34 < number {
+        return false;
     }
-    false
+    match kind {
+        Kind::Pacs008 => in_pacs_008(number),
+        Kind::Camt050 => in_camt_050(number),
+        Kind::Pacs028 => in_pacs_028(number),
+    }
 }

@@ -1,55 +1,51 @@
--- In every turn the check stands in the order exactly when it stands in what is left of it.
-use mathlib.Core.Path.{_≡_, refl, sym, _∙_}
-use Prim.Native.Nat.{_≤_, _-_}
-use native.Mathlib.Omega.{arith}
-use lib.ListN.{length, drop}
-use Rattle.table.specs.Checks.{orderOf, isIn, runs}
-use Rattle.table.proofs.Orders.{hit, miss, none}
+-- Each kind has its ranges, and no kind has a check past the last one.
+use mathlib.Core.Path.{sym}
+use borrow.Author.Needs.{needs}
+use Rattle.table.proofs.Ranges.{none-above}
 use Rattle.table.proofs.in_order.Statement.{statement}
 use Rattle.table.proofs.in_order.Tie as tie
 
-abbrev Inv-loop : tie.InvT-loop
-Inv-loop kind number n i₀ i = (n ≡ length (orderOf kind)) × (i ≤ n) × (runs kind number ≡ isIn number (drop i (orderOf kind)))
+returns : tie.Need-returns
+returns c = sym (none-above _ _ (c .if1 .taken))
 
-abbrev μ-loop : tie.MeasureT-loop
-μ-loop kind number n i₀ i = n - i
+enum-told : tie.Need-enum-told
+enum-told c = search needs
 
-order-length-requires : tie.Need-order-length-requires Inv-loop μ-loop
-order-length-requires c κs = tt
+in-pacs-008-requires : tie.Need-in-pacs-008-requires
+in-pacs-008-requires c κs = search needs
 
-loop-holds : tie.Need-loop-holds Inv-loop μ-loop
-unfolding runs
-loop-holds c = (c .order-length .ensures, omega arith, refl)
+enum-told-2 : tie.Need-enum-told-2
+enum-told-2 c = search needs
 
-order-at-requires : tie.Need-order-at-requires Inv-loop μ-loop
-order-at-requires c κs = tt
+in-camt-050-requires : tie.Need-in-camt-050-requires
+in-camt-050-requires c κs = search needs
 
-returns : tie.Need-returns Inv-loop μ-loop
-returns c = sym (c .before .before .before .loop .inv .2 ∙ hit (orderOf (c .before .before .before .before .before .args .kind)) (c .before .before .before .before .before .args .number) (c .before .before .before .loop .i) (omega arith) (sym (c .if1 .taken) ∙ c .before .order-at .ensures))
+enum-told-3 : tie.Need-enum-told-3
+enum-told-3 c = search needs
 
-add-i : tie.Need-add-i Inv-loop μ-loop
-add-i c = omega arith
+in-pacs-028-requires : tie.Need-in-pacs-028-requires
+in-pacs-028-requires c κs = search needs
 
-loop-less : tie.Need-loop-less Inv-loop μ-loop
-loop-less c = omega arith
+returns-2 : tie.Need-returns-2
+returns-2 c = rw (c .before .enum-told .given .1) (c .in-pacs-008 .ensures)
 
-loop-again : tie.Need-loop-again Inv-loop μ-loop
-loop-again c = (omega arith, omega arith, c .before .before .before .loop .inv .2 ∙ miss (orderOf (c .before .before .before .before .before .args .kind)) (c .before .before .before .before .before .args .number) (c .before .before .before .loop .i) (omega arith) (λ e. c .if1 .left (c .before .order-at .ensures ∙ sym e)))
+returns-3 : tie.Need-returns-3
+returns-3 c = rw (c .before .enum-told2 .given .1) (c .in-camt-050 .ensures)
 
-returns-2 : tie.Need-returns-2 Inv-loop μ-loop
-returns-2 c = sym (c .before .loop .inv .2 ∙ none (orderOf (c .before .before .before .args .kind)) (c .before .before .before .args .number) (c .before .loop .i) (omega arith))
+returns-4 : tie.Need-returns-4
+returns-4 c = rw (c .before .enum-told3 .given .1) (c .in-pacs-028 .ensures)
 
 pub in-order-spec : {M : Type 1} → statement M
 in-order-spec =
     tie.close
     (tie.spec
-    Inv-loop
-    μ-loop
-    order-length-requires
-    loop-holds
-    order-at-requires
     returns
-    add-i
-    loop-less
-    loop-again
-    returns-2)
+    enum-told
+    in-pacs-008-requires
+    enum-told-2
+    in-camt-050-requires
+    enum-told-3
+    in-pacs-028-requires
+    returns-2
+    returns-3
+    returns-4)

@@ -8,25 +8,25 @@ use Rattle.paths.proofs.tree.child.Statement.{statement}
 use Rattle.paths.proofs.tree.child.Tie as tie
 
 abbrev Inv-loop : tie.InvT-loop
-Inv-loop node name end below₀ below = (end ≤ 73) × (childOf node name ≡ namedFrom below (end - below) name)
+Inv-loop lines starts node name end below₀ below = (end ≤ 73) × (childOf node name ≡ namedFrom below (end - below) name)
 
 abbrev μ-loop : tie.MeasureT-loop
-μ-loop node name end below₀ below = end - below
+μ-loop lines starts node name end below₀ below = end - below
 
 add-first : tie.Need-add-first Inv-loop μ-loop
 add-first c = omega arith
 
 first-requires : tie.Need-first-requires Inv-loop μ-loop
-first-requires c κs = omega arith
+first-requires c κs = (c .before .pre .1, omega arith)
 
 first-requires-2 : tie.Need-first-requires-2 Inv-loop μ-loop
-first-requires-2 c κs = omega arith
+first-requires-2 c κs = (c .before .before .pre .1, omega arith)
 
 loop-holds : tie.Need-loop-holds Inv-loop μ-loop
 loop-holds c = (c .before .first .ensures .1, child-begins _ _ _ _ (c .before .first .ensures .0) (c .first2 .ensures .0))
 
 is-named-requires : tie.Need-is-named-requires Inv-loop μ-loop
-is-named-requires c κs = omega arith
+is-named-requires c κs = (c .before .before .before .before .before .pre .0, omega arith)
 
 returns : tie.Need-returns Inv-loop μ-loop
 returns c = (sym (c .before .before .before .loop .inv .1 ∙ child-here _ _ _ (c .before .before .loop-test .taken) (sym (c .before .is-named .ensures) ∙ c .if1 .taken)), omega arith)

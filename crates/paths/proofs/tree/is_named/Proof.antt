@@ -11,13 +11,13 @@ use Rattle.paths.proofs.tree.is_named.Statement.{statement}
 use Rattle.paths.proofs.tree.is_named.Tie as tie
 
 abbrev Inv-loop : tie.InvT-loop
-Inv-loop node name l i₀ i = (length l ≡ 18) × (length name ≤ 17) × (i ≤ length name) × (sameName (nameOf node) name ≡ sameName (beforeBlank (drop i l)) (drop i name))
+Inv-loop lines node name l i₀ i = (length l ≡ 18) × (length name ≤ 17) × (i ≤ length name) × (sameName (nameOf node) name ≡ sameName (beforeBlank (drop i l)) (drop i name))
 
 abbrev μ-loop : tie.MeasureT-loop
-μ-loop node name l i₀ i = length name - i
+μ-loop lines node name l i₀ i = length name - i
 
 returns : tie.Need-returns Inv-loop μ-loop
-returns c = sym (name-too-long _ _ (c .before .before .pre) (c .if1 .taken))
+returns c = sym (name-too-long _ _ (c .before .before .pre .1) (c .if1 .taken))
 
 line-requires : tie.Need-line-requires Inv-loop μ-loop
 line-requires c κs = c .before .before .pre
@@ -25,7 +25,7 @@ line-requires c κs = c .before .before .pre
 loop-holds : tie.Need-loop-holds Inv-loop μ-loop
 unfolding nameOf
 loop-holds c = (
-  ap length (c .line .ensures) ∙ line-long _ (c .before .before .before .pre),
+  ap length (c .line .ensures) ∙ line-long _ (c .before .before .before .pre .1),
   omega arith,
   omega arith,
   ap (λ l. sameName (beforeBlank l) (c .before .before .before .args .name .now)) (sym (c .line .ensures)),
