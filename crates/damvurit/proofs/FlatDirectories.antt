@@ -7,10 +7,12 @@ use mathlib.Core.List.{List, [], _∷_}
 use native.Mathlib.Omega.{arith}
 use native.Mathlib.Numerals.{add-one}
 use Prim.Native.Nat.{ℕ, suc, _+_, _-_, _≤_, _<_}
-use lib.ListN.{length, drop, getD, length-drop}
+use lib.ListN.{length, set, drop, getD, length-drop}
 use lib.Seq.{drop-cons}
+use borrow.Author.Tests.{lt-ltb, le-ltb}
 use Rattle.directory.specs.declared.Participant.{Participant}
 use Rattle.directory.specs.declared.Gathered.{Gathered}
+use Rattle.directory.specs.Directory.{recordsMost}
 use Rattle.directory.specs.Gathering.{noneGathered, added, gatheredFrom, gathered}
 use Rattle.damvurit.specs.Flat.{recordGood, recordOf, flatGood, flatRecords, flatDirectory}
 
@@ -71,7 +73,13 @@ module _ (s : List ℕ) (g : Gathered) (i : ℕ) where
       unfolding gatheredBehind flatGood flatRecords gatheredFrom
       one-more f p is next more = rw (four, ← e, f, more, is)
 
--- a record more is counted
-pub counted : (g : Gathered) (p : Participant) (next : Gathered) → next ≡ added g p → next .count ≡ g .count + 1
-unfolding added
-counted g p next more = rw (more, add-one)
+-- one record more: stored in the next place while there is one, past the places left out, and counted in any case
+module _ (g : Gathered) (p : Participant) (placed : Gathered) where
+  pub stored : placed ≡ record { count = g .count; records = set (g .records) (g .count) p } → g .count < recordsMost
+      → record { count = g .count + 1; records = placed .records } ≡ added g p
+  unfolding added
+  stored e room = rw (add-one, e, lt-ltb _ _ room)
+
+  pub past : placed ≡ g → recordsMost ≤ g .count → record { count = g .count + 1; records = placed .records } ≡ added g p
+  unfolding added
+  past e full = rw (add-one, e, le-ltb _ _ full)

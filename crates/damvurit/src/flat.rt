@@ -4,8 +4,7 @@ use directory::Gathered;
 use directory::Kind;
 use directory::Participant;
 ghost use mathlib.Core.Path.{_≡_};
-ghost use Prim.Native.Nat.{_+_, _<_, _^_};
-ghost use Rattle.directory.specs.Gathering.{noneGathered, added, gathered};
+ghost use Rattle.directory.specs.Gathering.{noneGathered, gathered};
 ghost use Rattle.damvurit.specs.Flat.{kindOf, recordGood, recordOf, flatDirectory};
 
 fn kind_of(kind: u64, named: u64) -> Kind
@@ -55,20 +54,6 @@ fn no_records() -> Gathered
     }
 }
 
-// One record more: in the next place while there is one, and counted in any case.
-fn with_record(g: Gathered, p: Participant) -> Gathered
-    requires { ⌜ g .count + 1 < 2 ^ 64 ⌝ }
-    ensures { λ r. ⌜ r ≡ added g p ⌝ }
-{
-    let at = g.count;
-    let mut next = g;
-    if at < 16 {
-        next.records[at] = p;
-    }
-    next.count = at + 1;
-    next
-}
-
 // The records of the directory, or none where the numbers are no directory.
 pub fn gather_flat(dir: &[u64]) -> Gathered
     ensures { λ r. ⌜ r ≡ gathered (flatDirectory (now (dir .entry))) ⌝ }
@@ -86,8 +71,12 @@ pub fn gather_flat(dir: &[u64]) -> Gathered
         if !record_good(instant, kind, named) {
             return no_records();
         }
-        let p = record_of(code, instant, kind, named);
-        out = with_record(out, p);
+        // One record more: in the next place while there is one, and counted in any case.
+        let at = out.count;
+        if at < 16 {
+            out.records[at] = record_of(code, instant, kind, named);
+        }
+        out.count = at + 1;
         i += 4;
     }
     out

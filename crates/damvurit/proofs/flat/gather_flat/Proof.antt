@@ -1,13 +1,14 @@
 -- Each turn takes one record off the front of what is left, and what is gathered of all numbers stays what is gathered of those behind the
 -- others.
-use mathlib.Core.Path.{_≡_, sym, _∙_}
+use mathlib.Core.Path.{_≡_, refl, sym, _∙_}
+use mathlib.Core.Logic.{⊎-elim}
 use Prim.Native.Nat.{_≤_, _-_}
 use native.Mathlib.Omega.{arith}
 use lib.ListN.{length, drop}
 use borrow.Author.Tests.{not-true, not-false}
 use Rattle.directory.specs.Gathering.{gathered}
 use Rattle.damvurit.specs.Flat.{flatDirectory}
-use Rattle.damvurit.proofs.FlatDirectories.{gatheredBehind, at-start, at-end, too-few, not-good, one-more, counted}
+use Rattle.damvurit.proofs.FlatDirectories.{gatheredBehind, at-start, at-end, too-few, not-good, one-more, stored, past}
 use Rattle.damvurit.proofs.flat.gather_flat.Statement.{statement}
 use Rattle.damvurit.proofs.flat.gather_flat.Tie as tie
 
@@ -77,8 +78,14 @@ returns-2 c = c .no-records3 .ensures ∙ sym (c .before .before .before .before
 record-of-requires : tie.Need-record-of-requires Inv-loop μ-loop
 record-of-requires c κs = tt
 
-with-record-requires : tie.Need-with-record-requires Inv-loop μ-loop
-with-record-requires c κs = omega arith
+mul-t20 : tie.Need-mul-t20 Inv-loop μ-loop
+mul-t20 c = omega arith
+
+element-set-from-out : tie.Need-element-set-from-out Inv-loop μ-loop
+element-set-from-out c = c .before .if3 .taken
+
+add-out : tie.Need-add-out Inv-loop μ-loop
+add-out c = omega arith
 
 add-i : tie.Need-add-i Inv-loop μ-loop
 add-i c = omega arith
@@ -87,7 +94,16 @@ loop-less : tie.Need-loop-less Inv-loop μ-loop
 loop-less c = omega arith
 
 loop-again : tie.Need-loop-again Inv-loop μ-loop
-loop-again c = (omega arith, omega (arith, counted (c .before .before .before .before .before .before .before .before .before .before .loop .out) (c .before .record-of .result) (c .with-record .result) (c .with-record .ensures)), c .before .before .before .before .before .before .before .before .before .before .loop .inv .2 ∙ one-more (c .before .before .before .before .before .before .before .before .before .before .before .before .before .args .dir .now) (c .before .before .before .before .before .before .before .before .before .before .loop .out) (c .before .before .before .before .before .before .before .before .before .before .loop .i) (c .before .before .before .before .before .before .before .before .if1 .left) (c .before .before .before .record-good .result) (c .before .before .before .record-good .ensures) (not-false _ (c .before .before .if2 .left)) (c .before .record-of .result) (c .before .record-of .ensures) (c .with-record .result) (c .with-record .ensures))
+loop-again c =
+    let more = one-more (c .before .before .before .before .before .before .before .before .before .before .before .before .args .dir .now) (c .before .before .before .before .before .before .before .before .before .loop .out) (c .before .before .before .before .before .before .before .before .before .loop .i) (c .before .before .before .before .before .before .before .if1 .left) (c .before .before .record-good .result) (c .before .before .record-good .ensures) (not-false _ (c .before .if2 .left)) in (
+      omega arith,
+      omega arith,
+      c .before .before .before .before .before .before .before .before .before .loop .inv .2
+          ∙ ⊎-elim
+          (λ w. more (w .1 .result) (w .1 .ensures) _ (stored _ _ _ (w .2) (w .0 .taken)))
+          (λ w. more _ refl _ (past _ _ _ (w .1) (w .0 .left)))
+          (c .if3 .came),
+    )
 
 returns-3 : tie.Need-returns-3 Inv-loop μ-loop
 returns-3 c = sym (c .before .loop .inv .2 ∙ at-end (c .before .before .before .before .args .dir .now) (c .before .loop .out) (c .before .loop .i) (c .loop-test .left))
@@ -118,7 +134,9 @@ gather-flat-spec =
     no-records-requires-3
     returns-2
     record-of-requires
-    with-record-requires
+    mul-t20
+    element-set-from-out
+    add-out
     add-i
     loop-less
     loop-again
