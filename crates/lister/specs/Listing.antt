@@ -3,11 +3,12 @@
 use mathlib.Core.Bool.{cond}
 use mathlib.Core.List.{List, [], _∷_, _++_}
 use mathlib.Core.Option.{Option, none, some}
-use Prim.Native.Nat.{ℕ, _+_, _/_, _%_}
+use Prim.Native.Nat.{ℕ, suc, _+_, _*_, _/_, _%_}
 use lib.Dec.{ltb}
 use Prim.Native.Char.{code}
 use lib.ListN.{length, take, drop}
 use Rattle.shape.specs.Text.{bytes}
+use Rattle.sheet.specs.Grammar.{nameMost, textMost, depthMost, elementMost}
 use Rattle.sheet.specs.Answer.{Reading, accepted, refused, readingOf}
 use Rattle.outline.specs.Rows.{Row, rowsOf}
 
@@ -61,6 +62,14 @@ textOf s (accepted n starts depths) =
 
 unfoldable pub listingOf : List ℕ → List ℕ
 listingOf s = textOf s (readingOf s)
+
+-- the longest line: a slash and a name at each level, a Ccy in brackets, a blank, a text and a line feed; and the longest listing: a line for
+-- each element, then four digits and ` fields` with its line feed. That no listing is longer is proved in `proofs/Longest.antt`
+abbrev pub lineMost : ℕ
+lineMost = suc nameMost * depthMost + 5 + 1 + textMost + 1
+
+abbrev pub listingMost : ℕ
+listingMost = lineMost * elementMost + 4 + 8
 
 -- as much of the listing is written as the buffer has room for, and nothing behind it: how many bytes, and the buffer then. Where fewer
 -- bytes are written than the buffer has, the listing is whole.

@@ -8,6 +8,10 @@ mod writer;
 use outline::names_around;
 use row::put_line;
 use row::texts_at;
+use sheet::DEPTH_MOST;
+use sheet::ELEMENT_MOST;
+use sheet::NAME_MOST;
+use sheet::TEXT_MOST;
 use sheet::read;
 use writer::put_all;
 use writer::put_decimal;
@@ -16,12 +20,16 @@ ghost use mathlib.Core.List.{_++_};
 ghost use Prim.Native.Nat.{_≤_};
 ghost use lib.ListN.{length};
 ghost use Rattle.shape.specs.Text.{bytes};
+ghost use Rattle.sheet.specs.Grammar.{elementMost};
 ghost use Rattle.outline.specs.Rows.{rowsOf};
 ghost use Rattle.lister.specs.Listing.{listedCount, listedAfter, decimalText, linesOf, fieldsOf};
 ghost use Rattle.lister.specs.Writing.{Wrote};
 
-// The longest listing of any sheet in bytes.
-pub const LISTING_MOST: usize = 148236;
+// The longest line in bytes: a name and a slash at each level, a Ccy in brackets, a blank, a text and a line feed.
+const LINE_MOST: usize = (NAME_MOST + 1) * DEPTH_MOST + 5 + 1 + TEXT_MOST + 1;
+
+// The longest listing of any sheet in bytes: a line for each element, and the count in four digits and the word after them.
+pub const LISTING_MOST: usize = LINE_MOST * ELEMENT_MOST + 4 + 8;
 
 // The place behind the lines that were written, and how many texts the rows hold.
 struct Listed {
@@ -34,14 +42,14 @@ fn put_lines(
     out: &mut [u8],
     s: &[u8],
     count: usize,
-    starts: &[usize; 256],
-    depths: &[usize; 256],
+    starts: &[usize; ELEMENT_MOST],
+    depths: &[usize; ELEMENT_MOST],
 ) -> Listed
-    requires { ⌜ (count ≤ 256) × (256 ≤ length (now starts)) × (256 ≤ length (now depths)) ⌝ }
+    requires { ⌜ (count ≤ elementMost) × (elementMost ≤ length (now starts)) × (elementMost ≤ length (now depths)) ⌝ }
     ensures { λ r. ⌜ Wrote (now (out .entry)) 0 (linesOf (rowsOf (now (s .entry)) count (now (starts .entry)) (now (depths .entry)))) (now (out .exit)) (r .to) ⌝ }
     ensures { λ r. ⌜ r .fields ≡ fieldsOf (rowsOf (now (s .entry)) count (now (starts .entry)) (now (depths .entry))) ⌝ }
 {
-    let mut stack = [0usize; 256];
+    let mut stack = [0usize; ELEMENT_MOST];
     let mut level = 0;
     let mut to = 0;
     let mut fields = 0;

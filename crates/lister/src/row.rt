@@ -2,12 +2,14 @@
 use crate::writer::put;
 use crate::writer::put_part;
 use outline::parts_at;
+use sheet::ELEMENT_MOST;
 use sheet::is_name_byte;
 ghost use mathlib.Core.Path.{_≡_};
 ghost use mathlib.Core.Bool.{cond};
 ghost use mathlib.Core.Option.{some, none};
 ghost use Prim.Native.Nat.{_≤_, _<_, _+_, _^_};
 ghost use lib.ListN.{take, drop};
+ghost use Rattle.sheet.specs.Grammar.{elementMost};
 ghost use Rattle.outline.specs.Rows.{nameAt, ccyAt, textAt};
 ghost use Rattle.lister.specs.Listing.{pathText, ccyText, lineWith, holdsText};
 ghost use Rattle.lister.specs.Writing.{Wrote, namesOf};
@@ -33,8 +35,14 @@ fn put_name(out: &mut [u8], n: usize, s: &[u8], start: usize) -> usize
 }
 
 // The path of the elements that start at the first places of a stack, the outermost first.
-fn put_path(out: &mut [u8], n: usize, s: &[u8], stack: &[usize; 256], level: usize) -> usize
-    requires { ⌜ level ≤ 256 ⌝ }
+fn put_path(
+    out: &mut [u8],
+    n: usize,
+    s: &[u8],
+    stack: &[usize; ELEMENT_MOST],
+    level: usize,
+) -> usize
+    requires { ⌜ level ≤ elementMost ⌝ }
     ensures { λ r. ⌜ Wrote (now (out .entry)) n (pathText (namesOf (now (s .entry)) (now (stack .entry)) level)) (now (out .exit)) r ⌝ }
 {
     let mut at = n;
@@ -77,10 +85,10 @@ pub fn put_line(
     n: usize,
     s: &[u8],
     start: usize,
-    stack: &[usize; 256],
+    stack: &[usize; ELEMENT_MOST],
     level: usize,
 ) -> usize
-    requires { ⌜ level ≤ 256 ⌝ }
+    requires { ⌜ level ≤ elementMost ⌝ }
     ensures { λ r. ⌜ Wrote (now (out .entry)) n (lineWith (namesOf (now (s .entry)) (now (stack .entry)) level) (ccyAt (now (s .entry)) start) (textAt (now (s .entry)) start)) (now (out .exit)) r ⌝ }
 {
     let parts = parts_at(s, start);

@@ -1,6 +1,7 @@
 // The sheet's reader for C: one function that reads a sheet and answers with one number, for the measurements of `bench/`.
 // It does what `sheet::read` does and adds no rule. What the number means stands in `specs/Number.antt`.
 // Which number is wanted is known only when it is called, so the compiler cannot leave out any part of the reading: both lists are filled each time.
+use sheet::ELEMENT_MOST;
 ghost use mathlib.Core.Path.{_≡_};
 ghost use Rattle.sheet.specs.Answer.{readingOf};
 ghost use Rattle.reader.specs.Number.{numberAt};
@@ -16,11 +17,11 @@ pub extern "C" fn damvurit_read_sheet(s: &[u8], which: usize) -> u64
     ensures { λ r. ⌜ r ≡ numberAt (readingOf (now (s .entry))) which ⌝ }
 {
     let sheet = sheet::read(s);
-    if which < 256 {
+    if which < ELEMENT_MOST {
         return sheet.starts[which] as u64;
     }
-    if which < 512 {
-        return sheet.depths[which - 256] as u64;
+    if which < 2 * ELEMENT_MOST {
+        return sheet.depths[which - ELEMENT_MOST] as u64;
     }
     if sheet.accepted {
         return sheet.count as u64;

@@ -6,11 +6,12 @@ use mathlib.Core.List.{List, [], _∷_, _++_}
 use Prim.Native.Nat.{ℕ, suc, _+_, _-_, _≤_, _<_}
 use native.Mathlib.Omega.{arith}
 use native.Mathlib.Numerals.{add-one}
-use lib.ListN.{length, getD}
+use lib.ListN.{length, getD, set}
 use Rattle.shape.specs.Text.{bytes}
 use Rattle.sheet.specs.Grammar.{depthMost, elementMost}
 use Rattle.sheet.specs.Machine.{State, Mode, begun, ending, between, turning, goes, closes, afterClosing, step}
 use Rattle.sheet.specs.Answer.{Reading, refused}
+use Rattle.sheet.specs.declared.parts.Tag.{Tag}
 use Rattle.sheet.specs.declared.parts.Went.{Went}
 use Rattle.sheet.specs.declared.parts.Went.the-variants.{To, Stopped}
 use Rattle.sheet.specs.declared.element.Came.{Came}
@@ -91,6 +92,13 @@ module _ (s : List ℕ) (left : ℕ) (name : List ℕ) (X : List (List ℕ) → 
 -- the reading of an element from behind its `<`
 abbrev pub whence : List ℕ → ℕ → ℕ → List ℕ → List ℕ → List (List ℕ) → Reading
 whence s at count starts depths names = runAt s (stateOf begun names count starts depths) at
+
+-- the same from its first child on, once its tag was read
+abbrev pub within : List ℕ → ℕ → ℕ → ℕ → List ℕ → List ℕ → Tag → List (List ℕ) → Reading
+within s at left count starts depths r names =
+    runAt s
+    (stateOf begun (partOf s at (r .to) ∷ names) (count + 1) (set starts count (at - 1)) (set depths count (depthMost + 1 - left)))
+    (r .place + 1)
 
 -- what it is in the end
 module _ (s : List ℕ) (at left count : ℕ) (starts depths starts′ depths′ : List ℕ) (ls : length starts′ ≡ elementMost) (ld : length depths′ ≡ elementMost) where

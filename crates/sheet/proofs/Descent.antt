@@ -106,14 +106,14 @@ module _ (s : List ℕ) (at left count : ℕ) (starts depths : List ℕ) (r : Ta
   starts′ = set starts count (at - 1)
 
   abbrev depths′ : List ℕ
-  depths′ = set depths count (13 - left)
+  depths′ = set depths count (depthMost + 1 - left)
 
   abbrev tagState : List (List ℕ) → State
   tagState names = stateOf (tagged (r .ccy)) (name ∷ names) (count + 1) starts′ depths′
 
   entered : (names : List (List ℕ)) → length names + left ≡ depthMost → runAt s (stateOf begun names count starts depths) at ≡ runAt s (tagState names) (r .place)
   entered names h =
-      let deep : 13 - left ≡ suc (length names) = omega arith in
+      let deep : depthMost + 1 - left ≡ suc (length names) = omega arith in
       rw (add-one count, deep)
       (subst (TagComes s (stateOf begun names count starts depths) at r) found (tag .comes (stateOf begun names count starts depths)))
 
@@ -123,28 +123,33 @@ module _ (s : List ℕ) (at left count : ℕ) (starts depths : List ℕ) (r : Ta
     comes = λ names h. entered names h ∙ f names h;
     places = λ e. absurd (false≢true e);
     long-starts = length-set starts count (at - 1) ∙ ls;
-    long-depths = length-set depths count (13 - left) ∙ ld;
+    long-depths = length-set depths count (depthMost + 1 - left) ∙ ld;
   }
 
-  -- it holds a text
-  pub with-text : (w : Went) → LeafRead s (r .place) at (r .to) w → ElementRead s at left count starts depths (cameOf w (count + 1)) starts′ depths′
-  with-text (To p) q =
+  text-read : (w : Went) → LeafRead s (r .place) at (r .to) w → ElementRead s at left count starts depths (cameOf w (count + 1)) starts′ depths′
+  text-read (To p) q =
       let ahead = q .comes (tagState []) (r .ccy) refl in
       let places = tag .places found in
       record {
         comes = λ names h. entered names h ∙ q .comes (tagState names) (r .ccy) refl .0;
         places = λ e. (omega arith, ahead .2, omega arith, omega arith);
         long-starts = length-set starts count (at - 1) ∙ ls;
-        long-depths = length-set depths count (13 - left) ∙ ld;
+        long-depths = length-set depths count (depthMost + 1 - left) ∙ ld;
       }
-  with-text (Stopped p) q = stops p (λ names h. q .comes (tagState names) (r .ccy) refl)
+  text-read (Stopped p) q = stops p (λ names h. q .comes (tagState names) (r .ccy) refl)
+
+  -- it holds a text
+  pub with-text : (w : Went) → LeafRead s (r .place) at (r .to) w → (came : Came) → came ≡ cameOf w (count + 1)
+      → ElementRead s at left count starts depths came starts′ depths′
+  with-text w q came e = subst (λ (x : Came). ElementRead s at left count starts depths x starts′ depths′) (sym e) (text-read w q)
 
   -- it holds neither a text nor a child
   pub with-nothing : isText (getD s (r .place) 0) ≡ false → mayHold (getD s (r .place) 0) (r .ccy) left (count + 1) ≡ false
-      → ElementRead s at left count starts depths (stoppedAt (r .place)) starts′ depths′
-  with-nothing t e =
-      stops (r .place)
-      (λ names h. run-stop s (tagState names) (r .place) refl (tagged-refused (tagState names) (r .ccy) (r .place) (getD s (r .place) 0) left (omega arith) t e))
+      → (came : Came) → came ≡ stoppedAt (r .place) → ElementRead s at left count starts depths came starts′ depths′
+  with-nothing t e came f =
+      subst (λ (x : Came). ElementRead s at left count starts depths x starts′ depths′) (sym f)
+      (stops (r .place) (λ names h. run-stop s (tagState names) (r .place) refl
+      (tagged-refused (tagState names) (r .ccy) (r .place) (getD s (r .place) 0) left (omega arith) t e)))
 
   -- its first child begins
   pub first-child : isText (getD s (r .place) 0) ≡ false → mayHold (getD s (r .place) 0) (r .ccy) left (count + 1) ≡ true → getD s (r .place) 0 ≡ 60

@@ -9,7 +9,7 @@ use native.Mathlib.Omega.{arith}
 use lib.ListN.{length, getD, drop-of-length-le}
 use borrow.Author.Tests.{le-leb, lt-leb, eq-eqb, ne-eqb}
 use lib.Seq.{drop-cons}
-use Rattle.sheet.specs.Grammar.{sheetMost}
+use Rattle.sheet.specs.Grammar.{depthMost, sheetMost}
 use Rattle.sheet.specs.Machine.{State, outer, begun, whole, goes, step}
 use Rattle.sheet.specs.Answer.{Reading, accepted, refused, run, emptyList, start, readingOf}
 use Rattle.sheet.specs.declared.element.Came.{Came}
@@ -42,7 +42,8 @@ module _ (s : List ℕ) (short : length s ≤ sheetMost) where
   pub unbegun : (getD s 0 0 ≡ 60 → ⊥) → readingOf s ≡ refused 0
   unbegun e = read-short ∙ run-stop s start 0 refl (outer-refused 0 (getD s 0 0) e)
 
-  module _ (first : getD s 0 0 ≡ 60) (came : Came) (starts depths : List ℕ) (outermost : ElementRead s 1 12 0 emptyList emptyList came starts depths) where
+  module _ (first : getD s 0 0 ≡ 60) (came : Came) (starts depths : List ℕ)
+      (outermost : ElementRead s 1 depthMost 0 emptyList emptyList came starts depths) where
     begins-so : readingOf s ≡ runAt s (stateOf begun [] 0 emptyList emptyList) 1
     begins-so = read-short ∙ run-go s start 0 (goes start begun) (in-sheet s 0 59 first) (outer-taken 0 (getD s 0 0) first)
 

@@ -6,7 +6,7 @@ use Prim.Native.Nat.{ℕ, _+_, _≤_, _<_}
 use Prim.Native.Char.{code}
 use lib.Dec.{ltb, eqb}
 use lib.ListN.{length}
-use Rattle.sheet.specs.Grammar.{depthMost, elementMost}
+use Rattle.sheet.specs.Grammar.{depthMost, elementMost, sheetMost}
 use Rattle.sheet.specs.Machine.{Mode, begun, State, afterClosing}
 use Rattle.sheet.specs.Answer.{refused}
 use Rattle.sheet.specs.Parts.{runAt}
@@ -31,6 +31,12 @@ ElementComes s at names count starts depths r starts′ depths′ true =
     runAt s (stateOf begun names count starts depths) at ≡ runAt s (stateOf (afterClosing names) names (r .count) starts′ depths′) (r .place)
 ElementComes s at names count starts depths r starts′ depths′ false =
     runAt s (stateOf begun names count starts depths) at ≡ refused (r .place)
+
+-- where an element is read from: after a `<` of a sheet that is not too long, with a level and a place in both lists left for it
+abbrev pub ElementRoom : List ℕ → ℕ → ℕ → ℕ → List ℕ → List ℕ → Type 0
+ElementRoom s at left count starts depths =
+    (0 < at) × (at ≤ length s) × (length s ≤ sheetMost) × (0 < left) × (left ≤ depthMost)
+    × (count < elementMost) × (length starts ≡ elementMost) × (length depths ≡ elementMost)
 
 pub record ElementRead (s : List ℕ) (at left count : ℕ) (starts depths : List ℕ) (r : Came) (starts′ depths′ : List ℕ) : Type 0 where
   pub comes : (names : List (List ℕ)) → length names + left ≡ depthMost → ElementComes s at names count starts depths r starts′ depths′ (r .whole)

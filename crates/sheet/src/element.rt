@@ -1,4 +1,6 @@
 // An element with all that it holds.
+use crate::DEPTH_MOST;
+use crate::ELEMENT_MOST;
 use crate::parts::Went;
 use crate::parts::closing;
 use crate::parts::leaf;
@@ -7,9 +9,7 @@ use shape::byte::is_text;
 use shape::byte::peek;
 ghost use mathlib.Core.Path.{_≡_};
 ghost use mathlib.Core.Bool.{true, false};
-ghost use Prim.Native.Nat.{_<_, _≤_, _+_};
-ghost use lib.ListN.{length};
-ghost use Rattle.sheet.specs.Element.{cameOf, mayHold, ElementRead};
+ghost use Rattle.sheet.specs.Element.{cameOf, mayHold, ElementRoom, ElementRead};
 
 // How far reading an element came: behind it, with so many elements begun in all, or to the place of the refusal.
 pub struct Came {
@@ -41,11 +41,11 @@ fn counted(went: Went, count: usize) -> Came
     }
 }
 
-// Whether a child may begin with this byte, right behind an opening tag: with a level left below, and fewer than 256 elements begun.
+// Whether a child may begin with this byte, right behind an opening tag: with a level left below, and room for an element more.
 fn may_hold(b: u8, ccy: bool, left: usize, count: usize) -> bool
     ensures { λ r. ⌜ r ≡ mayHold b ccy left count ⌝ }
 {
-    (b == b'<') & !ccy & (1 < left) & (count < 256)
+    (b == b'<') & !ccy & (1 < left) & (count < ELEMENT_MOST)
 }
 
 // An element from behind its `<`, with so many levels left, its own among them. It calls itself on its children, with a level less.
@@ -54,10 +54,10 @@ pub fn element(
     at: usize,
     left: usize,
     count: usize,
-    starts: &mut [usize; 256],
-    depths: &mut [usize; 256],
+    starts: &mut [usize; ELEMENT_MOST],
+    depths: &mut [usize; ELEMENT_MOST],
 ) -> Came
-    requires { ⌜ (0 < at) × (at ≤ length (now s)) × (length (now s) ≤ 8192) × (0 < left) × (left ≤ 12) × (count < 256) × (length (now starts) ≡ 256) × (length (now depths) ≡ 256) ⌝ }
+    requires { ⌜ ElementRoom (now s) at left count (now starts) (now depths) ⌝ }
     ensures { λ r. ⌜ ElementRead (now (s .entry)) at left count (now (starts .entry)) (now (depths .entry)) r (now (starts .exit)) (now (depths .exit)) ⌝ }
 {
     let tag = opening_tag(s, at);
@@ -66,7 +66,7 @@ pub fn element(
         return stopped(inside);
     }
     starts[count] = at - 1;
-    depths[count] = 13 - left;
+    depths[count] = DEPTH_MOST + 1 - left;
     let to = tag.to;
     let mut seen = count + 1;
     let b = peek(s, inside);
@@ -91,7 +91,7 @@ pub fn element(
         if peek(s, i) == b'/' {
             return counted(closing(s, i + 1, at, to), seen);
         }
-        if seen == 256 {
+        if seen == ELEMENT_MOST {
             return stopped(i);
         }
     }

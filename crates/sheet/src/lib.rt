@@ -27,19 +27,25 @@ ghost use mathlib.Core.Path.{_≡_};
 ghost use Rattle.sheet.specs.Sheet.{Answers, sheetOf};
 ghost use Rattle.sheet.specs.Answer.{refused, readingOf};
 
+// The limits of a sheet: bytes of a name and of a text, how deep its elements nest, how many there are, and its bytes in all.
+pub const NAME_MOST: usize = 35;
+
+pub const TEXT_MOST: usize = 140;
+
+pub const DEPTH_MOST: usize = 12;
+
+pub const ELEMENT_MOST: usize = 256;
+
+pub const SHEET_MOST: usize = 8192;
+
 // A sheet that was read. Refused, it has its place and nothing else; accepted, the number of its elements, and for each its `<` and its depth.
 pub struct Sheet {
     pub accepted: bool,
     pub place: usize,
     pub count: usize,
-    pub starts: [usize; 256],
-    pub depths: [usize; 256],
+    pub starts: [usize; ELEMENT_MOST],
+    pub depths: [usize; ELEMENT_MOST],
 }
-
-// The longest sheet in bytes, and how deep its elements nest.
-pub const SHEET_MOST: usize = 8192;
-
-pub const DEPTH_MOST: usize = 12;
 
 fn refused(place: usize) -> Sheet
     ensures { λ r. ⌜ r ≡ sheetOf (refused place) ⌝ }
@@ -48,8 +54,8 @@ fn refused(place: usize) -> Sheet
         accepted: false,
         place,
         count: 0,
-        starts: [0; 256],
-        depths: [0; 256],
+        starts: [0; ELEMENT_MOST],
+        depths: [0; ELEMENT_MOST],
     }
 }
 
@@ -64,8 +70,8 @@ pub fn read(s: &[u8]) -> Sheet
     if peek(s, 0) != b'<' {
         return refused(0);
     }
-    let mut starts = [0usize; 256];
-    let mut depths = [0usize; 256];
+    let mut starts = [0usize; ELEMENT_MOST];
+    let mut depths = [0usize; ELEMENT_MOST];
     let came = element(s, 1, DEPTH_MOST, 0, &mut starts, &mut depths);
     let place = came.place;
     if !came.whole {

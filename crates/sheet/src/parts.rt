@@ -1,4 +1,6 @@
 // The parts of a sheet that hold no element: names, tags and texts. Each function goes as far as the grammar lets it.
+use crate::NAME_MOST;
+use crate::TEXT_MOST;
 use shape::byte::is_capital;
 use shape::byte::is_digit;
 use shape::byte::is_letter;
@@ -9,7 +11,7 @@ ghost use mathlib.Core.Bool.{true, false};
 ghost use Rattle.shape.specs.Bytes.{isText};
 ghost use Prim.Native.Nat.{_<_, _≤_, _+_};
 ghost use lib.ListN.{length, getD};
-ghost use Rattle.sheet.specs.Grammar.{isNameByte};
+ghost use Rattle.sheet.specs.Grammar.{sheetMost, isNameByte};
 ghost use Rattle.sheet.specs.Machine.{isNext};
 ghost use Rattle.sheet.specs.Parts.{NameRead, TextRead, AttributeRead, ClosingRead, TagRead, LeafRead};
 
@@ -27,12 +29,12 @@ pub fn is_name_byte(b: u8) -> bool
 
 // The end of a name whose first letter stands at a place.
 pub fn name_end(s: &[u8], from: usize) -> usize
-    requires { ⌜ (from < length (now s)) × (length (now s) ≤ 8192) ⌝ }
+    requires { ⌜ (from < length (now s)) × (length (now s) ≤ sheetMost) ⌝ }
     ensures { λ r. ⌜ NameRead (now (s .entry)) from r ⌝ }
 {
     let mut i = from + 1;
     while (i < s.len()) {
-        if 35 <= i - from {
+        if NAME_MOST <= i - from {
             return i;
         }
         if !is_name_byte(s[i]) {
@@ -45,12 +47,12 @@ pub fn name_end(s: &[u8], from: usize) -> usize
 
 // The end of a text whose first byte stands at a place.
 pub fn text_end(s: &[u8], from: usize) -> usize
-    requires { ⌜ (from < length (now s)) × (length (now s) ≤ 8192) ⌝ }
+    requires { ⌜ (from < length (now s)) × (length (now s) ≤ sheetMost) ⌝ }
     ensures { λ r. ⌜ TextRead (now (s .entry)) from r ⌝ }
 {
     let mut i = from + 1;
     while i < s.len() {
-        if 140 <= i - from {
+        if TEXT_MOST <= i - from {
             return i;
         }
         if !is_text(s[i]) {
@@ -73,7 +75,7 @@ fn is_next(c: u8, b: u8) -> bool
 
 // The rest of a Ccy and the tag's end, behind the blank.
 pub fn attribute(s: &[u8], from: usize) -> Went
-    requires { ⌜ (from ≤ length (now s)) × (length (now s) ≤ 8192) ⌝ }
+    requires { ⌜ (from ≤ length (now s)) × (length (now s) ≤ sheetMost) ⌝ }
     ensures { λ r. ⌜ AttributeRead (now (s .entry)) from r ⌝ }
 {
     let pattern = b"Ccy=\"^^^\">";
@@ -92,7 +94,7 @@ pub fn attribute(s: &[u8], from: usize) -> Went
 
 // The rest of a closing tag, behind its slash: the name that stands at from..to, and the tag's end.
 pub fn closing(s: &[u8], at: usize, from: usize, to: usize) -> Went
-    requires { ⌜ (at ≤ length (now s)) × (from ≤ to) × (to ≤ length (now s)) × (length (now s) ≤ 8192) ⌝ }
+    requires { ⌜ (at ≤ length (now s)) × (from ≤ to) × (to ≤ length (now s)) × (length (now s) ≤ sheetMost) ⌝ }
     ensures { λ r. ⌜ ClosingRead (now (s .entry)) at from to r ⌝ }
 {
     let n = to - from;
@@ -134,7 +136,7 @@ fn no_tag(place: usize) -> Tag
 
 // An opening tag, from behind its `<`.
 pub fn opening_tag(s: &[u8], at: usize) -> Tag
-    requires { ⌜ (at ≤ length (now s)) × (length (now s) ≤ 8192) ⌝ }
+    requires { ⌜ (at ≤ length (now s)) × (length (now s) ≤ sheetMost) ⌝ }
     ensures { λ r. ⌜ TagRead (now (s .entry)) at r ⌝ }
 {
     if !is_letter(peek(s, at)) {
@@ -166,7 +168,7 @@ pub fn opening_tag(s: &[u8], at: usize) -> Tag
 
 // A text and the closing tag behind it, for the name that stands at from..to.
 pub fn leaf(s: &[u8], inside: usize, from: usize, to: usize) -> Went
-    requires { ⌜ (inside < length (now s)) × (from ≤ to) × (to ≤ length (now s)) × (length (now s) ≤ 8192) × (isText (getD (now s) inside 0) ≡ true) ⌝ }
+    requires { ⌜ (inside < length (now s)) × (from ≤ to) × (to ≤ length (now s)) × (length (now s) ≤ sheetMost) × (isText (getD (now s) inside 0) ≡ true) ⌝ }
     ensures { λ r. ⌜ LeafRead (now (s .entry)) inside from to r ⌝ }
 {
     let end = text_end(s, inside);

@@ -3,6 +3,7 @@ use mathlib.Core.Path.{_≡_, refl, _∙_}
 use Prim.Native.Nat.{_-_, _+_, _≤_}
 use native.Mathlib.Omega.{arith}
 use lib.ListN.{length, getD, length-set}
+use Rattle.sheet.specs.Grammar.{elementMost}
 use Rattle.outline.specs.Rows.{rowsOf, textAt}
 use Rattle.lister.specs.Listing.{linesOf, fieldsOf}
 use Rattle.lister.proofs.Written.{Still, still-less, still-nothing}
@@ -12,7 +13,8 @@ use Rattle.lister.proofs.put_lines.Statement.{statement}
 use Rattle.lister.proofs.put_lines.Tie as tie
 
 abbrev Inv-loop : tie.InvT-loop
-Inv-loop out₀ s count starts depths stack₀ level₀ to₀ fields₀ k₀ out stack level to fields k = (length out ≡ length out₀) × (length stack ≡ 256) × (k ≤ count) × (level ≤ k) × (fields ≤ k)
+Inv-loop out₀ s count starts depths stack₀ level₀ to₀ fields₀ k₀ out stack level to fields k = (length out ≡ length out₀)
+    × (length stack ≡ elementMost) × (k ≤ count) × (level ≤ k) × (fields ≤ k)
     × Still out₀ 0 (linesOf (rowsOf s count starts depths)) out to (linesOf (rowsLeft s count starts depths stack level k))
     × (fieldsOf (rowsOf s count starts depths) ≡ fields + fieldsOf (rowsLeft s count starts depths stack level k))
 

@@ -18,6 +18,9 @@ element-copy-out-result c = search needs
 returns : tie.Need-returns
 returns c = at-start (readingOf (c .before .before .before .before .args .s .now)) _ (c .before .before .read .ensures .1) (c .before .before .before .before .args .which) (c .before .if1 .taken)
 
+mul-if2 : tie.Need-mul-if2
+mul-if2 c = search needs
+
 mul-result-2 : tie.Need-mul-result-2
 mul-result-2 c = search needs
 
@@ -44,6 +47,7 @@ damvurit-read-sheet-spec =
     mul-result
     element-copy-out-result
     returns
+    mul-if2
     mul-result-2
     element-copy-out-result-2
     returns-2

@@ -6,13 +6,15 @@ use native.Mathlib.Omega.{arith}
 use lib.Arith.{lt-of-le-ne}
 use lib.ListN.{length, set, length-set}
 use borrow.Author.Tests.{not-true, not-false}
+use Rattle.sheet.specs.Grammar.{depthMost, elementMost}
 use Rattle.sheet.specs.Machine.{begun}
 use Rattle.sheet.specs.Parts.{runAt, partOf, ClosingRead}
 use Rattle.sheet.specs.Element.{stateOf, ElementRead}
 use Rattle.sheet.specs.declared.element.Came.{Came}
 use Rattle.sheet.proofs.Ends.{inside as in-sheet, text-inside}
 use Rattle.sheet.proofs.Descent.{untagged, with-text, with-nothing, first-child, may-hold-parts}
-use Rattle.sheet.proofs.Children.{Reaches, whence, child-refused, no-more, too-many, sibling, closed, not-closed, ends-refused, ends-with-child, ends-closed, closing-places}
+use Rattle.sheet.proofs.Children.{Reaches, whence, within, child-refused, no-more, too-many, sibling, closed, not-closed}
+use Rattle.sheet.proofs.Children.{ends-refused, ends-with-child, ends-closed, closing-places}
 use Prim.Native.Nat.{ℕ, _<_}
 use borrow.Fn.Kinds.{In}
 use borrow.Fn.PlainCycle.{Measures, is, falls, and}
@@ -43,7 +45,8 @@ abbrev cs : ℕ → element-lts.Claims
 cs t = (opening-tag-reads.Asked, opening-tag-reads.Learnt, stopped-reads.Asked, stopped-reads.Learnt, peek-reads.Asked, peek-reads.Learnt, is-text-reads.Asked, is-text-reads.Learnt, leaf-reads.Asked, leaf-reads.Learnt, counted-reads.Asked, counted-reads.Learnt, may-hold-reads.Asked, may-hold-reads.Learnt, element-below t, element.Post, closing-reads.Asked, closing-reads.Learnt)
 
 abbrev element-Inv-loop : element-lts.InvT-loop
-element-Inv-loop s at left count starts₀ depths₀ inside to seen₀ b i₀ starts depths seen i = (at < i) × (i ≤ length s) × (count < seen) × (seen < 256) × (length starts ≡ 256) × (length depths ≡ 256)
+element-Inv-loop s at left count starts₀ depths₀ inside to seen₀ b i₀ starts depths seen i = (at < i) × (i ≤ length s) × (count < seen)
+    × (seen < elementMost) × (length starts ≡ elementMost) × (length depths ≡ elementMost)
     × Reaches s left (λ names. runAt s (stateOf begun (partOf s at to ∷ names) seen₀ starts₀ depths₀) i₀) (λ names. stateOf begun (partOf s at to ∷ names) seen starts depths) i
 
 abbrev element-μ-loop : element-lts.MeasureT-loop
@@ -66,6 +69,9 @@ element-mul-starts t c = omega arith
 
 element-element-write-starts : (t : ℕ) → element-lts.Need-element-write-starts (cs t) (element-at t) element.Post element-Inv-loop element-μ-loop
 element-element-write-starts t c = omega arith
+
+element-add-depths : (t : ℕ) → element-lts.Need-add-depths (cs t) (element-at t) element.Post element-Inv-loop element-μ-loop
+element-add-depths t c = omega arith
 
 element-sub-depths : (t : ℕ) → element-lts.Need-sub-depths (cs t) (element-at t) element.Post element-Inv-loop element-μ-loop
 element-sub-depths t c = omega arith
@@ -92,7 +98,13 @@ element-counted-requires : (t : ℕ) → element-lts.Need-counted-requires (cs t
 element-counted-requires t c κs = tt
 
 element-returns-2 : (t : ℕ) → element-lts.Need-returns-2 (cs t) (element-at t) element.Post element-Inv-loop element-μ-loop
-element-returns-2 t c = subst (λ (r : Came). ElementRead (c .before .before .before .before .before .before .before .before .before .args .s .now) (c .before .before .before .before .before .before .before .before .before .args .at) (c .before .before .before .before .before .before .before .before .before .args .left) (c .before .before .before .before .before .before .before .before .before .args .count) (c .before .before .before .before .before .before .before .before .before .args .starts .now) (c .before .before .before .before .before .before .before .before .before .args .depths .now) r (set (c .before .before .before .before .before .before .before .before .before .args .starts .now) (c .before .before .before .before .before .before .before .before .before .args .count) ((c .before .before .before .before .before .before .before .before .before .args .at) - 1)) (set (c .before .before .before .before .before .before .before .before .before .args .depths .now) (c .before .before .before .before .before .before .before .before .before .args .count) (13 - (c .before .before .before .before .before .before .before .before .before .args .left)))) (sym (c .counted .ensures)) (with-text (c .before .before .before .before .before .before .before .before .before .args .s .now) (c .before .before .before .before .before .before .before .before .before .args .at) (c .before .before .before .before .before .before .before .before .before .args .left) (c .before .before .before .before .before .before .before .before .before .args .count) (c .before .before .before .before .before .before .before .before .before .args .starts .now) (c .before .before .before .before .before .before .before .before .before .args .depths .now) (c .before .before .before .before .before .before .before .opening-tag .result) (c .before .before .before .before .before .before .before .opening-tag .ensures) (not-false _ (c .before .before .before .before .before .if1 .left)) (c .before .before .before .before .before .before .before .before .before .pre .1 .5) (c .before .before .before .before .before .before .before .before .before .pre .1 .6) (c .before .before .before .before .before .before .before .before .before .pre .1 .7) (c .before .leaf .result) (c .before .leaf .ensures))
+element-returns-2 t c =
+    let tag = c .before .before .before .before .before .before .before in
+    let start = tag .before .before in
+    let args = start .args in
+    with-text (args .s .now) (args .at) (args .left) (args .count) (args .starts .now) (args .depths .now)
+    (tag .opening-tag .result) (tag .opening-tag .ensures) (not-false _ (c .before .before .before .before .before .if1 .left))
+    (start .pre .1 .5) (start .pre .1 .6) (start .pre .1 .7) (c .before .leaf .result) (c .before .leaf .ensures) _ (c .counted .ensures)
 
 element-may-hold-requires : (t : ℕ) → element-lts.Need-may-hold-requires (cs t) (element-at t) element.Post element-Inv-loop element-μ-loop
 element-may-hold-requires t c κs = tt
@@ -101,13 +113,38 @@ element-stopped-requires-2 : (t : ℕ) → element-lts.Need-stopped-requires-2 (
 element-stopped-requires-2 t c κs = tt
 
 element-returns-3 : (t : ℕ) → element-lts.Need-returns-3 (cs t) (element-at t) element.Post element-Inv-loop element-μ-loop
-element-returns-3 t c = subst (λ (r : Came). ElementRead (c .before .before .before .before .before .before .before .before .before .before .args .s .now) (c .before .before .before .before .before .before .before .before .before .before .args .at) (c .before .before .before .before .before .before .before .before .before .before .args .left) (c .before .before .before .before .before .before .before .before .before .before .args .count) (c .before .before .before .before .before .before .before .before .before .before .args .starts .now) (c .before .before .before .before .before .before .before .before .before .before .args .depths .now) r (set (c .before .before .before .before .before .before .before .before .before .before .args .starts .now) (c .before .before .before .before .before .before .before .before .before .before .args .count) ((c .before .before .before .before .before .before .before .before .before .before .args .at) - 1)) (set (c .before .before .before .before .before .before .before .before .before .before .args .depths .now) (c .before .before .before .before .before .before .before .before .before .before .args .count) (13 - (c .before .before .before .before .before .before .before .before .before .before .args .left)))) (sym (c .stopped2 .ensures)) (with-nothing (c .before .before .before .before .before .before .before .before .before .before .args .s .now) (c .before .before .before .before .before .before .before .before .before .before .args .at) (c .before .before .before .before .before .before .before .before .before .before .args .left) (c .before .before .before .before .before .before .before .before .before .before .args .count) (c .before .before .before .before .before .before .before .before .before .before .args .starts .now) (c .before .before .before .before .before .before .before .before .before .before .args .depths .now) (c .before .before .before .before .before .before .before .before .opening-tag .result) (c .before .before .before .before .before .before .before .before .opening-tag .ensures) (not-false _ (c .before .before .before .before .before .before .if1 .left)) (c .before .before .before .before .before .before .before .before .before .before .pre .1 .5) (c .before .before .before .before .before .before .before .before .before .before .pre .1 .6) (c .before .before .before .before .before .before .before .before .before .before .pre .1 .7) (rw (c .before .before .before .before .before .peek .ensures) at (sym (c .before .before .before .before .is-text .ensures) ∙ c .before .before .before .if2 .left)) (rw (c .before .before .before .before .before .peek .ensures) at (sym (c .before .before .may-hold .ensures) ∙ not-true _ (c .before .if3 .taken))))
+element-returns-3 t c =
+    let seen = c .before .before .before in
+    let tag = seen .before .before .before .before .before in
+    let start = tag .before .before in
+    let args = start .args in
+    with-nothing (args .s .now) (args .at) (args .left) (args .count) (args .starts .now) (args .depths .now)
+    (tag .opening-tag .result) (tag .opening-tag .ensures) (not-false _ (seen .before .before .before .if1 .left))
+    (start .pre .1 .5) (start .pre .1 .6) (start .pre .1 .7)
+    (rw (seen .before .before .peek .ensures) at (sym (seen .before .is-text .ensures) ∙ seen .if2 .left))
+    (rw (seen .before .before .peek .ensures) at (sym (c .before .before .may-hold .ensures) ∙ not-true _ (c .before .if3 .taken)))
+    _ (c .stopped2 .ensures)
 
 element-add-i : (t : ℕ) → element-lts.Need-add-i (cs t) (element-at t) element.Post element-Inv-loop element-μ-loop
 element-add-i t c = let p = (c .before .before .before .before .before .before .before .opening-tag .ensures) .places (not-false _ (c .before .before .before .before .before .if1 .left)) in omega arith
 
 element-loop-holds : (t : ℕ) → element-lts.Need-loop-holds (cs t) (element-at t) element.Post element-Inv-loop element-μ-loop
-element-loop-holds t c = let p = (c .before .before .before .before .before .before .before .opening-tag .ensures) .places (not-false _ (c .before .before .before .before .before .if1 .left)) in let q = (may-hold-parts (c .before .before .before .before .peek .result) ((c .before .before .before .before .before .before .before .opening-tag .result) .ccy) (c .before .before .before .before .before .before .before .before .before .args .left) ((c .before .before .before .before .before .before .before .before .before .args .count) + 1) (sym (c .before .may-hold .ensures) ∙ not-false _ (c .if3 .left))) in let i = in-sheet (c .before .before .before .before .before .before .before .before .before .args .s .now) ((c .before .before .before .before .before .before .before .opening-tag .result) .place) 59 (sym (c .before .before .before .before .peek .ensures) ∙ (may-hold-parts (c .before .before .before .before .peek .result) ((c .before .before .before .before .before .before .before .opening-tag .result) .ccy) (c .before .before .before .before .before .before .before .before .before .args .left) ((c .before .before .before .before .before .before .before .before .before .args .count) + 1) (sym (c .before .may-hold .ensures) ∙ not-false _ (c .if3 .left))) .0) in (omega arith, omega arith, omega arith, q .2, length-set (c .before .before .before .before .before .before .before .before .before .args .starts .now) (c .before .before .before .before .before .before .before .before .before .args .count) ((c .before .before .before .before .before .before .before .before .before .args .at) - 1) ∙ c .before .before .before .before .before .before .before .before .before .pre .1 .6, length-set (c .before .before .before .before .before .before .before .before .before .args .depths .now) (c .before .before .before .before .before .before .before .before .before .args .count) (13 - (c .before .before .before .before .before .before .before .before .before .args .left)) ∙ c .before .before .before .before .before .before .before .before .before .pre .1 .7, λ names h. refl)
+element-loop-holds t c =
+    let tag = c .before .before .before .before .before .before .before in
+    let start = tag .before .before in
+    let args = start .args in
+    let p = tag .opening-tag .ensures .places (not-false _ (c .before .before .before .before .before .if1 .left)) in
+    let child = sym (c .before .may-hold .ensures) ∙ not-false _ (c .if3 .left) in
+    let q = may-hold-parts (c .before .before .before .before .peek .result) (tag .opening-tag .result .ccy) (args .left) (args .count + 1) child in
+    let i = in-sheet (args .s .now) (tag .opening-tag .result .place) 59 (sym (c .before .before .before .before .peek .ensures) ∙ q .0) in (
+      omega arith,
+      omega arith,
+      omega arith,
+      q .2,
+      length-set (args .starts .now) (args .count) (args .at - 1) ∙ start .pre .1 .6,
+      length-set (args .depths .now) (args .count) (depthMost + 1 - args .left) ∙ start .pre .1 .7,
+      λ names h. refl,
+    )
 
 element-sub-element : (t : ℕ) → element-lts.Need-sub-element (cs t) (element-at t) element.Post element-Inv-loop element-μ-loop
 element-sub-element t c = omega arith
@@ -155,7 +192,32 @@ element-loop-less : (t : ℕ) → element-lts.Need-loop-less (cs t) (element-at 
 element-loop-less t c = let p = (c .before .before .before .before .before .before .before .element .ensures .places (not-false _ (c .before .before .before .before .before .if4 .left))) in let i = in-sheet (c .before .before .before .before .before .before .before .before .before .before .before .before .before .before .before .before .before .before .before .before .args .s .now) ((c .before .before .before .before .before .before .before .element .result) .place) 59 (sym (c .before .before .before .before .peek2 .ensures) ∙ c .before .before .before .if5 .left) in omega arith
 
 element-loop-again : (t : ℕ) → element-lts.Need-loop-again (cs t) (element-at t) element.Post element-Inv-loop element-μ-loop
-element-loop-again t c = let p = (c .before .before .before .before .before .before .before .element .ensures .places (not-false _ (c .before .before .before .before .before .if4 .left))) in let i = in-sheet (c .before .before .before .before .before .before .before .before .before .before .before .before .before .before .before .before .before .before .before .before .args .s .now) ((c .before .before .before .before .before .before .before .element .result) .place) 59 (sym (c .before .before .before .before .peek2 .ensures) ∙ c .before .before .before .if5 .left) in let few : (c .before .before .before .before .before .before .before .element .result) .count < 256 = lt-of-le-ne (p .3) (c .if7 .left) in (omega arith, omega arith, omega arith, few, c .before .before .before .before .before .before .before .element .ensures .long-starts, c .before .before .before .before .before .before .before .element .ensures .long-depths, sibling (c .before .before .before .before .before .before .before .before .before .before .before .before .before .before .before .before .before .before .before .before .args .s .now) (c .before .before .before .before .before .before .before .before .before .before .before .before .before .before .before .before .before .before .before .before .args .left) (partOf (c .before .before .before .before .before .before .before .before .before .before .before .before .before .before .before .before .before .before .before .before .args .s .now) (c .before .before .before .before .before .before .before .before .before .before .before .before .before .before .before .before .before .before .before .before .args .at) ((c .before .before .before .before .before .before .before .before .before .before .before .before .before .before .before .before .before .before .opening-tag .result) .to)) (λ names. runAt (c .before .before .before .before .before .before .before .before .before .before .before .before .before .before .before .before .before .before .before .before .args .s .now) (stateOf begun ((partOf (c .before .before .before .before .before .before .before .before .before .before .before .before .before .before .before .before .before .before .before .before .args .s .now) (c .before .before .before .before .before .before .before .before .before .before .before .before .before .before .before .before .before .before .before .before .args .at) ((c .before .before .before .before .before .before .before .before .before .before .before .before .before .before .before .before .before .before .opening-tag .result) .to)) ∷ names) ((c .before .before .before .before .before .before .before .before .before .before .before .before .before .before .before .before .before .before .before .before .args .count) + 1) (set (c .before .before .before .before .before .before .before .before .before .before .before .before .before .before .before .before .before .before .before .before .args .starts .now) (c .before .before .before .before .before .before .before .before .before .before .before .before .before .before .before .before .before .before .before .before .args .count) ((c .before .before .before .before .before .before .before .before .before .before .before .before .before .before .before .before .before .before .before .before .args .at) - 1)) (set (c .before .before .before .before .before .before .before .before .before .before .before .before .before .before .before .before .before .before .before .before .args .depths .now) (c .before .before .before .before .before .before .before .before .before .before .before .before .before .before .before .before .before .before .before .before .args .count) (13 - (c .before .before .before .before .before .before .before .before .before .before .before .before .before .before .before .before .before .before .before .before .args .left)))) ((c .before .before .before .before .before .before .before .before .before .before .before .before .before .before .before .before .before .before .opening-tag .result) .place + 1)) (c .before .before .before .before .before .before .before .before .before .before .loop .i) (c .before .before .before .before .before .before .before .before .before .before .loop .seen) (c .before .before .before .before .before .before .before .before .before .before .loop .starts) (c .before .before .before .before .before .before .before .before .before .before .loop .depths) (c .before .before .before .before .before .before .before .before .before .before .loop .inv .6) ((may-hold-parts (c .before .before .before .before .before .before .before .before .before .before .before .before .before .before .before .peek .result) ((c .before .before .before .before .before .before .before .before .before .before .before .before .before .before .before .before .before .before .opening-tag .result) .ccy) (c .before .before .before .before .before .before .before .before .before .before .before .before .before .before .before .before .before .before .before .before .args .left) ((c .before .before .before .before .before .before .before .before .before .before .before .before .before .before .before .before .before .before .before .before .args .count) + 1) (sym (c .before .before .before .before .before .before .before .before .before .before .before .before .may-hold .ensures) ∙ not-false _ (c .before .before .before .before .before .before .before .before .before .before .before .if3 .left))) .1) (c .before .before .before .before .before .before .before .element .result) (c .before .before .before .before .before .before .before .element .last .1 .1 .1 .1 .0) (c .before .before .before .before .before .before .before .element .last .1 .1 .1 .1 .1 .0) (c .before .before .before .before .before .before .before .element .ensures) (not-false _ (c .before .before .before .before .before .if4 .left)) (sym (c .before .before .before .before .peek2 .ensures) ∙ c .before .before .before .if5 .left) (λ e. c .before .if6 .left (c .before .before .peek3 .ensures ∙ e)) few)
+element-loop-again t c =
+    let child = c .before .before .before .before .before .before .before in
+    let whole = not-false _ (c .before .before .before .before .before .if4 .left) in
+    let p = child .element .ensures .places whole in
+    let turn = c .before .before .before .before .before .before .before .before .before .before in
+    let inside = turn .before in
+    let tag = inside .before .before .before .before .before .before .before in
+    let start = tag .before .before in
+    let args = start .args in
+    let more = sym (c .before .before .before .before .peek2 .ensures) ∙ c .before .before .before .if5 .left in
+    let i = in-sheet (args .s .now) (child .element .result .place) 59 more in
+    let few : child .element .result .count < elementMost = lt-of-le-ne (p .3) (c .if7 .left) in (
+      omega arith,
+      omega arith,
+      omega arith,
+      few,
+      child .element .ensures .long-starts,
+      child .element .ensures .long-depths,
+      sibling (args .s .now) (args .left) (partOf (args .s .now) (args .at) (tag .opening-tag .result .to))
+          (within (args .s .now) (args .at) (args .left) (args .count) (args .starts .now) (args .depths .now) (tag .opening-tag .result))
+          (turn .loop .i) (turn .loop .seen) (turn .loop .starts) (turn .loop .depths) (turn .loop .inv .6)
+          (may-hold-parts (inside .before .before .before .before .peek .result) (tag .opening-tag .result .ccy) (args .left) (args .count + 1)
+          (sym (inside .before .may-hold .ensures) ∙ not-false _ (inside .if3 .left)) .1)
+          (child .element .result) (child .element .last .1 .1 .1 .1 .0) (child .element .last .1 .1 .1 .1 .1 .0) (child .element .ensures)
+          whole more (λ e. c .before .if6 .left (c .before .before .peek3 .ensures ∙ e)) few,
+    )
 
 pub +element-spec : {M : Type 1} → statement M
 +element-spec = close μ-element λ t. element-lts.spec (cs t)
@@ -169,6 +231,7 @@ pub +element-spec : {M : Type 1} → statement M
     (element-sub-starts t)
     (element-mul-starts t)
     (element-element-write-starts t)
+    (element-add-depths t)
     (element-sub-depths t)
     (element-mul-depths t)
     (element-element-write-depths t)
