@@ -75,15 +75,15 @@ fit-names dir fit =
     (every (λ (p : Participant). names dir (p .kind)) dir) fit
 
 -- a fit directory has no more records than there are places
-pub fit-few : (dir : List Participant) → isFit dir ≡ true → length dir ≤ 16
+pub fit-few : (dir : List Participant) → isFit dir ≡ true → length dir ≤ recordsMost
 unfolding isFit
 fit-few dir fit =
-    leb-true (length dir) 16
-    (and-right (leb 1 (length dir)) (leb (length dir) 16)
-    (and-left (leb 1 (length dir) && leb (length dir) 16) (every (λ (p : Participant). leb (p .code) codeMost) dir)
-    (and-left (leb 1 (length dir) && leb (length dir) 16 && every (λ (p : Participant). leb (p .code) codeMost) dir) (ascending dir)
+    leb-true (length dir) recordsMost
+    (and-right (leb 1 (length dir)) (leb (length dir) recordsMost)
+    (and-left (leb 1 (length dir) && leb (length dir) recordsMost) (every (λ (p : Participant). leb (p .code) codeMost) dir)
+    (and-left (leb 1 (length dir) && leb (length dir) recordsMost && every (λ (p : Participant). leb (p .code) codeMost) dir) (ascending dir)
     (and-left
-    (leb 1 (length dir) && leb (length dir) 16 && every (λ (p : Participant). leb (p .code) codeMost) dir && ascending dir)
+    (leb 1 (length dir) && leb (length dir) recordsMost && every (λ (p : Participant). leb (p .code) codeMost) dir && ascending dir)
     (every (λ (p : Participant). names dir (p .kind)) dir) fit))))
 
 -- in a fit directory the code that a record names is an owner's

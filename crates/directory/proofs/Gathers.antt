@@ -14,7 +14,7 @@ use borrow.Author.Tests.{lt-ltb, leb-true}
 use Rattle.shape.proofs.Tests.{and-false}
 use Rattle.directory.specs.declared.Participant.{Participant}
 use Rattle.directory.specs.declared.Gathered.{Gathered}
-use Rattle.directory.specs.Directory.{isFit}
+use Rattle.directory.specs.Directory.{recordsMost, isFit}
 use Rattle.directory.specs.Gathering.{nobody, noneGathered, added, gatheredFrom, gathered, recordsIn, directoryIn, fitGathered}
 use Rattle.directory.proofs.Finds.{fit-few}
 
@@ -24,37 +24,37 @@ count-from g [] = omega arith
 count-from g (p ∷ dir) = count-from (added g p) dir ∙ omega arith
 
 -- a record more, while there is a place for it, stands behind those before
-added-records : (g : Gathered) (p : Participant) → length (g .records) ≡ 16 → g .count < 16
+added-records : (g : Gathered) (p : Participant) → length (g .records) ≡ recordsMost → g .count < recordsMost
     → recordsIn (added g p) ≡ recordsIn g ++ (p ∷ [])
 unfolding added
-added-records g p sixteen h = rw (lt-ltb (g .count) 16 h) (take-suc-set (g .records) (g .count) p (omega arith))
+added-records g p places h = rw (lt-ltb (g .count) recordsMost h) (take-suc-set (g .records) (g .count) p (omega arith))
 
-added-places : (g : Gathered) (p : Participant) → length (g .records) ≡ 16 → length (added g p .records) ≡ 16
+added-places : (g : Gathered) (p : Participant) → length (g .records) ≡ recordsMost → length (added g p .records) ≡ recordsMost
 unfolding added
-added-places g p sixteen = by-room (ltb (g .count) 16)
+added-places g p places = by-room (ltb (g .count) recordsMost)
   where
-    by-room : (room : Bool) → length (cond room (set (g .records) (g .count) p) (g .records)) ≡ 16
-    by-room true = length-set (g .records) (g .count) p ∙ sixteen
-    by-room false = sixteen
+    by-room : (room : Bool) → length (cond room (set (g .records) (g .count) p) (g .records)) ≡ recordsMost
+    by-room true = length-set (g .records) (g .count) p ∙ places
+    by-room false = places
 
 added-count : (g : Gathered) (p : Participant) → added g p .count ≡ suc (g .count)
 unfolding added
 added-count g p = refl
 
-records-from : (g : Gathered) (dir : List Participant) → length (g .records) ≡ 16 → g .count + length dir ≤ 16
+records-from : (g : Gathered) (dir : List Participant) → length (g .records) ≡ recordsMost → g .count + length dir ≤ recordsMost
     → recordsIn (gatheredFrom g dir) ≡ recordsIn g ++ dir
 unfolding gatheredFrom
-records-from g [] sixteen h = sym (append-nil (recordsIn g))
-records-from g (p ∷ dir) sixteen h =
-    records-from (added g p) dir (added-places g p sixteen) (omega (arith, added-count g p))
-    ∙ rw (added-records g p sixteen (omega arith)) (append-snoc (recordsIn g) p dir)
+records-from g [] places h = sym (append-nil (recordsIn g))
+records-from g (p ∷ dir) places h =
+    records-from (added g p) dir (added-places g p places) (omega (arith, added-count g p))
+    ∙ rw (added-records g p places (omega arith)) (append-snoc (recordsIn g) p dir)
 
-places-from : (g : Gathered) (dir : List Participant) → length (g .records) ≡ 16 → length (gatheredFrom g dir .records) ≡ 16
+places-from : (g : Gathered) (dir : List Participant) → length (g .records) ≡ recordsMost → length (gatheredFrom g dir .records) ≡ recordsMost
 unfolding gatheredFrom
-places-from g [] sixteen = sixteen
-places-from g (p ∷ dir) sixteen = places-from (added g p) dir (added-places g p sixteen)
+places-from g [] places = places
+places-from g (p ∷ dir) places = places-from (added g p) dir (added-places g p places)
 
-gathered-places : (dir : List Participant) → length (gathered dir .records) ≡ 16
+gathered-places : (dir : List Participant) → length (gathered dir .records) ≡ recordsMost
 unfolding gathered
 gathered-places dir = places-from noneGathered dir refl
 
@@ -62,52 +62,52 @@ pub gathered-count : (dir : List Participant) → gathered dir .count ≡ length
 unfolding gathered
 gathered-count dir = count-from noneGathered dir ∙ omega arith
 
-pub gathered-records : (dir : List Participant) → length dir ≤ 16 → recordsIn (gathered dir) ≡ dir
+pub gathered-records : (dir : List Participant) → length dir ≤ recordsMost → recordsIn (gathered dir) ≡ dir
 unfolding gathered
 gathered-records dir h = records-from noneGathered dir refl (omega arith)
 
 pub fits-is-fit : (dir : List Participant) → fitGathered (gathered dir) ≡ isFit dir
 unfolding fitGathered isFit
-fits-is-fit dir = by-count (leb (length dir) 16) refl
+fits-is-fit dir = by-count (leb (length dir) recordsMost) refl
   where
-    by-count : (few : Bool) → leb (length dir) 16 ≡ few → fitGathered (gathered dir) ≡ isFit dir
-    by-count true e = rw (gathered-records dir (leb-true (length dir) 16 e), gathered-count dir)
+    by-count : (few : Bool) → leb (length dir) recordsMost ≡ few → fitGathered (gathered dir) ≡ isFit dir
+    by-count true e = rw (gathered-records dir (leb-true (length dir) recordsMost e), gathered-count dir)
     by-count false e = rw (gathered-count dir, e, and-false (leb 1 (length dir)) false refl)
 
 -- no more records than places: nothing stands behind them
-directory-few : (g : Gathered) → g .count ≤ 16 → directoryIn g ≡ recordsIn g
+directory-few : (g : Gathered) → g .count ≤ recordsMost → directoryIn g ≡ recordsIn g
 unfolding directoryIn
 directory-few g h =
-    let none : g .count - 16 ≡ 0 = omega arith in
+    let none : g .count - recordsMost ≡ 0 = omega arith in
     rw none (append-nil (recordsIn g))
 
-directory-count : (g : Gathered) → length (g .records) ≡ 16 → length (directoryIn g) ≡ g .count
+directory-count : (g : Gathered) → length (g .records) ≡ recordsMost → length (directoryIn g) ≡ g .count
 unfolding directoryIn
-directory-count g sixteen =
-    length-append (recordsIn g) (replicate (g .count - 16) nobody)
-    ∙ rw (length-take (g .count) (g .records), length-replicate (g .count - 16) nobody) (omega arith)
+directory-count g places =
+    length-append (recordsIn g) (replicate (g .count - recordsMost) nobody)
+    ∙ rw (length-take (g .count) (g .records), length-replicate (g .count - recordsMost) nobody) (omega arith)
 
 -- the test on what was gathered is the fitness of the directory that this stands for
-pub directory-fit : (g : Gathered) → length (g .records) ≡ 16 → fitGathered g ≡ isFit (directoryIn g)
+pub directory-fit : (g : Gathered) → length (g .records) ≡ recordsMost → fitGathered g ≡ isFit (directoryIn g)
 unfolding fitGathered isFit
-directory-fit g sixteen = by-count (leb (g .count) 16) refl
+directory-fit g places = by-count (leb (g .count) recordsMost) refl
   where
     count : length (directoryIn g) ≡ g .count
-    count = directory-count g sixteen
+    count = directory-count g places
 
-    by-count : (few : Bool) → leb (g .count) 16 ≡ few → fitGathered g ≡ isFit (directoryIn g)
-    by-count true e = rw (count, directory-few g (leb-true (g .count) 16 e))
+    by-count : (few : Bool) → leb (g .count) recordsMost ≡ few → fitGathered g ≡ isFit (directoryIn g)
+    by-count true e = rw (count, directory-few g (leb-true (g .count) recordsMost e))
     by-count false e = rw (count, e, and-false (leb 1 (g .count)) false refl)
 
-unfit : (g : Gathered) → leb (g .count) 16 ≡ false → fitGathered g ≡ false
+unfit : (g : Gathered) → leb (g .count) recordsMost ≡ false → fitGathered g ≡ false
 unfolding fitGathered
 unfit g e = rw (e, and-false (leb 1 (g .count)) false refl)
 
-pub few-gathered : (g : Gathered) → fitGathered g ≡ true → g .count ≤ 16
-few-gathered g fit = by-count (leb (g .count) 16) refl
+pub few-gathered : (g : Gathered) → fitGathered g ≡ true → g .count ≤ recordsMost
+few-gathered g fit = by-count (leb (g .count) recordsMost) refl
   where
-    by-count : (few : Bool) → leb (g .count) 16 ≡ few → g .count ≤ 16
-    by-count true e = leb-true (g .count) 16 e
+    by-count : (few : Bool) → leb (g .count) recordsMost ≡ few → g .count ≤ recordsMost
+    by-count true e = leb-true (g .count) recordsMost e
     by-count false e = absurd (false≢true (sym (unfit g e) ∙ fit))
 
 pub directory-records : (g : Gathered) → fitGathered g ≡ true → directoryIn g ≡ recordsIn g

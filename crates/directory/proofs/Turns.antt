@@ -15,35 +15,35 @@ use Rattle.shape.proofs.Tests.{and-left, and-right}
 use Rattle.directory.specs.declared.Participant.{Participant}
 use Rattle.directory.specs.declared.Gathered.{Gathered}
 use Rattle.directory.specs.declared.Found.the-variants.{At, Missing}
-use Rattle.directory.specs.Directory.{foundFrom, ascending}
+use Rattle.directory.specs.Directory.{recordsMost, foundFrom, ascending}
 use Rattle.directory.specs.Gathering.{recordsIn}
 
 -- the test of the loops: place i has a record
 abbrev goes : Gathered → ℕ → Bool
-goes g i = ltb i (g .count) && ltb i 16
+goes g i = ltb i (g .count) && ltb i recordsMost
 
-pub goes-on : (g : Gathered) (i : ℕ) → goes g i ≡ true → (i < g .count) × (i < 16)
+pub goes-on : (g : Gathered) (i : ℕ) → goes g i ≡ true → (i < g .count) × (i < recordsMost)
 goes-on g i t =
-    (ltb-true i (g .count) (and-left (ltb i (g .count)) (ltb i 16) t), ltb-true i 16 (and-right (ltb i (g .count)) (ltb i 16) t))
+    (ltb-true i (g .count) (and-left (ltb i (g .count)) (ltb i recordsMost) t), ltb-true i recordsMost (and-right (ltb i (g .count)) (ltb i recordsMost) t))
 
 ascending-short : (dir : List Participant) → length dir ≤ 1 → ascending dir ≡ true
 ascending-short [] h = refl
 ascending-short (p ∷ []) h = refl
 ascending-short (p ∷ q ∷ dir) h = absurd (omega arith)
 
-module _ (g : Gathered) (sixteen : length (g .records) ≡ 16) where
-  next : (i : ℕ) (d : Participant) → i < g .count → i < 16 → drop i (recordsIn g) ≡ getD (g .records) i d ∷ drop (i + 1) (recordsIn g)
+module _ (g : Gathered) (places : length (g .records) ≡ recordsMost) where
+  next : (i : ℕ) (d : Participant) → i < g .count → i < recordsMost → drop i (recordsIn g) ≡ getD (g .records) i d ∷ drop (i + 1) (recordsIn g)
   next i d h k =
       let within : i < length (recordsIn g) = rw (length-take (g .count) (g .records)) (omega arith) in
       rw (add-one, drop-cons (recordsIn g) i d within, getD-take (g .count) (g .records) i d h)
 
   -- the loop stops: it has passed all records
   stops : (i : ℕ) → goes g i ≡ false → length (recordsIn g) ≤ i
-  stops i t = short (ltb i (g .count)) refl (ltb i 16) refl t
+  stops i t = short (ltb i (g .count)) refl (ltb i recordsMost) refl t
     where
-      short : (a : Bool) → ltb i (g .count) ≡ a → (b : Bool) → ltb i 16 ≡ b → (a && b) ≡ false → length (recordsIn g) ≤ i
+      short : (a : Bool) → ltb i (g .count) ≡ a → (b : Bool) → ltb i recordsMost ≡ b → (a && b) ≡ false → length (recordsIn g) ≤ i
       short true ea true eb q = absurd (false≢true (sym q))
-      short true ea false eb q = rw (length-take (g .count) (g .records)) (omega (arith, ltb-false i 16 eb))
+      short true ea false eb q = rw (length-take (g .count) (g .records)) (omega (arith, ltb-false i recordsMost eb))
       short false ea b eb q = rw (length-take (g .count) (g .records)) (omega (arith, ltb-false i (g .count) ea))
 
   module _ (i : ℕ) where
@@ -86,7 +86,7 @@ module _ (g : Gathered) (sixteen : length (g .records) ≡ 16) where
         → ascending (drop k (recordsIn g))
         ≡ (ltb (getD (g .records) k d .code) (getD (g .records) i d .code) && ascending (drop i (recordsIn g)))
     ascend-turn d t =
-        let on : (i < g .count) × (i < 16) = goes-on g i t in
+        let on : (i < g .count) × (i < recordsMost) = goes-on g i t in
         rw (next k d (omega arith) (omega arith), ← e, turn i d t)
 
     pub ascend-hit : (d : Participant) → goes g i ≡ true → ltb (getD (g .records) k d .code) (getD (g .records) i d .code) ≡ true

@@ -12,7 +12,9 @@ ghost use Rattle.directory.specs.declared.Participant.{Participant};
 ghost use Rattle.directory.specs.Directory.{codeMost, found, isOwner, ownerFound, names, ascending, isListed, isInstant, inSep, accountCode, underSep, underAsp, headNamed, headIn, bankNamed, bankIn, isBank, bankFound, placeIn, accountIn, foundAs};
 ghost use Rattle.directory.specs.Gathering.{nobody, noneGathered, added, gathered, looked, codeIn, ifGiven, recordsIn, fitGathered};
 
-// The highest code.
+// The most records, and the highest code.
+pub const RECORDS_MOST: usize = 16;
+
 pub const CODE_MOST: u64 = 999999;
 
 // What a participant is: an owner of accounts, or a branch or provider, with the code of its head or serving bank.
@@ -36,10 +38,10 @@ pub enum Found {
     Missing,
 }
 
-// The first records of a directory, at most 16, and how many it has in all.
+// The first records of a directory, as many as a fit one has, and how many it has in all.
 pub struct Gathered {
     pub count: usize,
-    pub records: [Participant; 16],
+    pub records: [Participant; RECORDS_MOST],
 }
 
 fn nobody() -> Participant
@@ -57,7 +59,7 @@ fn none_gathered() -> Gathered
 {
     Gathered {
         count: 0,
-        records: [nobody(); 16],
+        records: [nobody(); RECORDS_MOST],
     }
 }
 
@@ -68,7 +70,7 @@ fn add(g: Gathered, p: Participant) -> Gathered
 {
     let at = g.count;
     let mut next = g;
-    if at < 16 {
+    if at < RECORDS_MOST {
         next.records[at] = p;
     }
     next.count = at + 1;
@@ -163,7 +165,7 @@ pub fn find_in(g: Gathered, code: u64) -> Found
 {
     let records = g.records;
     let mut i = 0;
-    while (i < g.count) & (i < 16) {
+    while (i < g.count) & (i < RECORDS_MOST) {
         let p = records[i];
         if p.code == code {
             return Found::At(i, p);
@@ -221,7 +223,7 @@ fn all_name_owners(g: Gathered) -> bool
 {
     let records = g.records;
     let mut i = 0;
-    while (i < g.count) & (i < 16) {
+    while (i < g.count) & (i < RECORDS_MOST) {
         let p = records[i];
         let kind = p.kind;
         if !names_owner(g, kind) {
@@ -238,7 +240,7 @@ fn all_codes(g: Gathered) -> bool
 {
     let records = g.records;
     let mut i = 0;
-    while (i < g.count) & (i < 16) {
+    while (i < g.count) & (i < RECORDS_MOST) {
         let p = records[i];
         if CODE_MOST < p.code {
             return false;
@@ -254,7 +256,7 @@ fn ascends(g: Gathered) -> bool
 {
     let records = g.records;
     let mut i = 1;
-    while (i < g.count) & (i < 16) {
+    while (i < g.count) & (i < RECORDS_MOST) {
         let p = records[i - 1];
         let q = records[i];
         if q.code <= p.code {
@@ -269,7 +271,7 @@ fn ascends(g: Gathered) -> bool
 pub fn fits(g: Gathered) -> bool
     ensures { λ r. ⌜ r ≡ fitGathered g ⌝ }
 {
-    (1 <= g.count) & (g.count <= 16) & all_codes(g) & ascends(g) & all_name_owners(g)
+    (1 <= g.count) & (g.count <= RECORDS_MOST) & all_codes(g) & ascends(g) & all_name_owners(g)
 }
 
 // Whether `SEP` lists what is of this kind; `ASP` lists the others.

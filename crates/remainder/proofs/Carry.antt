@@ -8,46 +8,47 @@ use Prim.Native.Nat.{ℕ, suc, _+_, _-_, _*_, _/_, _%_, _≤_, _<_}
 use native.Mathlib.Nat.{add-mul, mul-assoc, mod-mod, div-add-mod, add-mul-mod-self-left}
 use native.Mathlib.Omega.{arith}
 use native.Mathlib.Numerals.{add-one}
+use Prim.Native.Char.{code}
 use lib.ListN.{length, getD, take, drop, length-drop, drop-of-length-le}
 use lib.Seq.{drop-cons, take-all}
 use borrow.Author.Tests.{le-leb, lt-leb}
 use Rattle.shape.specs.Bytes.{every, isDigit, isDigitOrCapital}
 use Rattle.shape.specs.Patterns.{within, digitOrCapital}
 use Rattle.remainder.specs.declared.Mod97.the-variants.{Of, NoIban}
-use Rattle.remainder.specs.Remainder.{written, writtenAll, whole, isPlain, remainderOf}
+use Rattle.remainder.specs.Remainder.{modulus, capitalBase, written, writtenAll, whole, isPlain, remainderOf}
 
--- a multiple of 97 in the number is one in what is written behind it too, so it may be left out first
-behind-keeps : (k n d : ℕ) → (n % 97 * k + d) % 97 ≡ (n * k + d) % 97
+-- a multiple of the modulus in the number is one in what is written behind it too, so it may be left out first
+behind-keeps : (k n d : ℕ) → (n % modulus * k + d) % modulus ≡ (n * k + d) % modulus
 behind-keeps k n d =
-    let parts : n * k + d ≡ n % 97 * k + d + 97 * (n / 97 * k) =
-    omega (arith, ap (λ (m : ℕ). m * k) (div-add-mod n 97), add-mul (97 * (n / 97)) (n % 97) k, mul-assoc 97 (n / 97) k) in
-    sym (rw parts (add-mul-mod-self-left (n % 97 * k + d) 97 (n / 97 * k)))
+    let parts : n * k + d ≡ n % modulus * k + d + modulus * (n / modulus * k) =
+    omega (arith, ap (λ (m : ℕ). m * k) (div-add-mod n modulus), add-mul (modulus * (n / modulus)) (n % modulus) k, mul-assoc modulus (n / modulus) k) in
+    sym (rw parts (add-mul-mod-self-left (n % modulus * k + d) modulus (n / modulus * k)))
 
 -- a digit takes one place and a letter two
-pub digit-next : (n b : ℕ) → isDigit b ≡ true → (n % 97 * 10 + (b - 48)) % 97 ≡ written n b % 97
+pub digit-next : (n b : ℕ) → isDigit b ≡ true → (n % modulus * 10 + (b - code "0")) % modulus ≡ written n b % modulus
 unfolding written
-digit-next n b e = rw e (behind-keeps 10 n (b - 48))
+digit-next n b e = rw e (behind-keeps 10 n (b - code "0"))
 
-pub letter-next : (n b : ℕ) → isDigit b ≡ false → (n % 97 * 100 + (b - 55)) % 97 ≡ written n b % 97
+pub letter-next : (n b : ℕ) → isDigit b ≡ false → (n % modulus * 100 + (b - capitalBase)) % modulus ≡ written n b % modulus
 unfolding written
-letter-next n b e = rw e (behind-keeps 100 n (b - 55))
+letter-next n b e = rw e (behind-keeps 100 n (b - capitalBase))
 
-either-keeps : (t : Bool) (n d e : ℕ) → cond t (n % 97 * 10 + d) (n % 97 * 100 + e) % 97 ≡ cond t (n * 10 + d) (n * 100 + e) % 97
+either-keeps : (t : Bool) (n d e : ℕ) → cond t (n % modulus * 10 + d) (n % modulus * 100 + e) % modulus ≡ cond t (n * 10 + d) (n * 100 + e) % modulus
 either-keeps true n d e = behind-keeps 10 n d
 either-keeps false n d e = behind-keeps 100 n e
 
-pub written-keeps : (n b : ℕ) → written (n % 97) b % 97 ≡ written n b % 97
+pub written-keeps : (n b : ℕ) → written (n % modulus) b % modulus ≡ written n b % modulus
 unfolding written
-written-keeps n b = either-keeps (isDigit b) n (b - 48) (b - 55)
+written-keeps n b = either-keeps (isDigit b) n (b - code "0") (b - capitalBase)
 
 -- two numbers of one remainder have one remainder behind the same text too
-writtenAll-agrees : (s : List ℕ) (n m : ℕ) → n % 97 ≡ m % 97 → writtenAll n s % 97 ≡ writtenAll m s % 97
+writtenAll-agrees : (s : List ℕ) (n m : ℕ) → n % modulus ≡ m % modulus → writtenAll n s % modulus ≡ writtenAll m s % modulus
 writtenAll-agrees [] n m e = e
 writtenAll-agrees (b ∷ s) n m e =
     writtenAll-agrees s (written n b) (written m b) (sym (written-keeps n b) ∙ rw e (written-keeps m b))
 
-pub writtenAll-keeps : (n : ℕ) (s : List ℕ) → writtenAll (n % 97) s % 97 ≡ writtenAll n s % 97
-writtenAll-keeps n s = writtenAll-agrees s (n % 97) n (mod-mod n 97)
+pub writtenAll-keeps : (n : ℕ) (s : List ℕ) → writtenAll (n % modulus) s % modulus ≡ writtenAll n s % modulus
+writtenAll-keeps n s = writtenAll-agrees s (n % modulus) n (mod-mod n modulus)
 
 pub writtenAll-append : (n : ℕ) (s t : List ℕ) → writtenAll n (s ++ t) ≡ writtenAll (writtenAll n s) t
 writtenAll-append n [] t = refl
@@ -55,7 +56,7 @@ writtenAll-append n (b ∷ s) t = writtenAll-append (written n b) s t
 
 -- a turn of the loop over a text carries the remainder one character further
 module _ (s : List ℕ) (i n : ℕ) where
-  pub carry-turn : i < length s → writtenAll n (drop i s) % 97 ≡ writtenAll (written n (getD s i 0) % 97) (drop (i + 1) s) % 97
+  pub carry-turn : i < length s → writtenAll n (drop i s) % modulus ≡ writtenAll (written n (getD s i 0) % modulus) (drop (i + 1) s) % modulus
   carry-turn h = rw (add-one, drop-cons s i 0 h) (sym (writtenAll-keeps (written n (getD s i 0)) (drop (suc i) s)))
 
   pub carry-end : length s ≤ i → writtenAll n (drop i s) ≡ n
@@ -77,12 +78,12 @@ module _ (s : List ℕ) where
   unfolding remainderOf isPlain
   none-of-other h e = rw (le-leb 4 (length s) h, sym (class-is s) ∙ e)
 
-  whole-carried : writtenAll (writtenAll 0 (drop 4 s) % 97) (take 4 s) % 97 ≡ whole s % 97
+  whole-carried : writtenAll (writtenAll 0 (drop 4 s) % modulus) (take 4 s) % modulus ≡ whole s % modulus
   unfolding whole
   whole-carried = writtenAll-keeps (writtenAll 0 (drop 4 s)) (take 4 s) ∙ rw (writtenAll-append 0 (drop 4 s) (take 4 s))
 
   pub of-plain : 4 ≤ length s → every (within digitOrCapital) s ≡ true
-      → Of (writtenAll (writtenAll 0 (take (length s - 4) (drop 4 s)) % 97) (take 4 s) % 97) ≡ remainderOf s
+      → Of (writtenAll (writtenAll 0 (take (length s - 4) (drop 4 s)) % modulus) (take 4 s) % modulus) ≡ remainderOf s
   unfolding remainderOf isPlain
   of-plain h e =
       rw (le-leb 4 (length s) h, sym (class-is s) ∙ e, take-all (length s - 4) (drop 4 s) (omega (arith, length-drop 4 s))) (ap Of whole-carried)

@@ -6,7 +6,13 @@ use shape::pattern::DIGIT_OR_CAPITAL;
 use shape::pattern::all_within;
 ghost use mathlib.Core.Path.{_≡_};
 ghost use Prim.Native.Nat.{_<_, _%_, _-_};
-ghost use Rattle.remainder.specs.Remainder.{written, writtenAll, remainderOf};
+ghost use Rattle.remainder.specs.Remainder.{modulus, written, writtenAll, remainderOf};
+
+// MOD 97-10.
+const MODULUS: u64 = 97;
+
+// What a capital is above its number: A is 10.
+const CAPITAL_BASE: u8 = b'A' - 10;
 
 // What an IBAN leaves when its number is divided by 97.
 pub enum Mod97 {
@@ -29,16 +35,16 @@ impl Carried {
 
     // The remainder with one more character written behind the number.
     pub fn next(self, b: u8) -> Self
-        ensures { λ r. ⌜ r ≡ record { remainder = written (self .remainder) b % 97 } ⌝ }
+        ensures { λ r. ⌜ r ≡ record { remainder = written (self .remainder) b % modulus } ⌝ }
     {
-        let so_far = self.remainder % 97;
+        let so_far = self.remainder % MODULUS;
         if is_digit(b) {
             return Carried {
-                remainder: (so_far * 10 + below(b, 48)) % 97,
+                remainder: (so_far * 10 + below(b, b'0')) % MODULUS,
             };
         }
         Carried {
-            remainder: (so_far * 100 + below(b, 55)) % 97,
+            remainder: (so_far * 100 + below(b, CAPITAL_BASE)) % MODULUS,
         }
     }
 }
@@ -55,8 +61,8 @@ fn below(b: u8, base: u8) -> u64
 
 // The remainder with all of a part written behind the number.
 fn through(from: Carried, s: &[u8]) -> Carried
-    requires { ⌜ from .remainder < 97 ⌝ }
-    ensures { λ r. ⌜ r ≡ record { remainder = writtenAll (from .remainder) (now (s .entry)) % 97 } ⌝ }
+    requires { ⌜ from .remainder < modulus ⌝ }
+    ensures { λ r. ⌜ r ≡ record { remainder = writtenAll (from .remainder) (now (s .entry)) % modulus } ⌝ }
 {
     let mut at = from;
     let mut i = 0;

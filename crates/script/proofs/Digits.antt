@@ -15,7 +15,7 @@ use Rattle.shape.specs.Bytes.{every, isDigit}
 use Rattle.shape.specs.Numbers.{digitValue, decimalFrom, decimal}
 use Rattle.shape.specs.declared.value.Value.the-variants.{Of, None}
 use Rattle.shape.proofs.Tests.{and-left, and-right, in-range, at-place}
-use Rattle.script.specs.Said.{sumFrom, hasPoint, sumOf}
+use Rattle.script.specs.Said.{numberDigitsMost, sumDigitsMost, sumFrom, hasPoint, sumOf}
 
 -- each byte of a text of digits is a digit
 pub digit-byte : (s : List ℕ) → every isDigit s ≡ true → (i : ℕ) → i < length s → (48 ≤ getD s i 0) × (getD s i 0 ≤ 57)
@@ -44,65 +44,66 @@ unfolding decimal
 decimal-below s e = digits-below (0 + length s) (length s) (decimalFrom 0 s) (omega arith) (below-from s 0 0 e (lit< tt))
 
 -- what the test of a number says of its digits
-module _ (s : List ℕ) (t : Bool) (e : t ≡ every isDigit s) (h : (leb 1 (length s) && leb (length s) 19 && t) ≡ true) where
-  pub number-tested : (length s ≤ 19) × (every isDigit s ≡ true)
+module _ (s : List ℕ) (t : Bool) (e : t ≡ every isDigit s) (h : (leb 1 (length s) && leb (length s) numberDigitsMost && t) ≡ true) where
+  pub number-tested : (length s ≤ numberDigitsMost) × (every isDigit s ≡ true)
   number-tested = (
-    leb-true (length s) 19 (and-right (leb 1 (length s)) (leb (length s) 19) (and-left (leb 1 (length s) && leb (length s) 19) t h)),
-    sym e ∙ and-right (leb 1 (length s) && leb (length s) 19) t h,
+    leb-true (length s) numberDigitsMost
+        (and-right (leb 1 (length s)) (leb (length s) numberDigitsMost) (and-left (leb 1 (length s) && leb (length s) numberDigitsMost) t h)),
+    sym e ∙ and-right (leb 1 (length s) && leb (length s) numberDigitsMost) t h,
   )
 
 -- what the test of a sum says of its two parts
 module _ (u h : List ℕ) (t w : Bool) (e : t ≡ every isDigit u) (f : w ≡ every isDigit h)
-    (k : (leb 1 (length u) && leb (length u) 16 && eqb (length h) 2 && t && w) ≡ true) where
-  lengths : (leb 1 (length u) && leb (length u) 16 && eqb (length h) 2) ≡ true
+    (k : (leb 1 (length u) && leb (length u) sumDigitsMost && eqb (length h) 2 && t && w) ≡ true) where
+  lengths : (leb 1 (length u) && leb (length u) sumDigitsMost && eqb (length h) 2) ≡ true
   lengths =
-      and-left (leb 1 (length u) && leb (length u) 16 && eqb (length h) 2) t
-      (and-left (leb 1 (length u) && leb (length u) 16 && eqb (length h) 2 && t) w k)
+      and-left (leb 1 (length u) && leb (length u) sumDigitsMost && eqb (length h) 2) t
+      (and-left (leb 1 (length u) && leb (length u) sumDigitsMost && eqb (length h) 2 && t) w k)
 
-  pub units-short : length u ≤ 16
+  pub units-short : length u ≤ sumDigitsMost
   units-short =
-      leb-true (length u) 16
-      (and-right (leb 1 (length u)) (leb (length u) 16) (and-left (leb 1 (length u) && leb (length u) 16) (eqb (length h) 2) lengths))
+      leb-true (length u) sumDigitsMost
+      (and-right (leb 1 (length u)) (leb (length u) sumDigitsMost) (and-left (leb 1 (length u) && leb (length u) sumDigitsMost) (eqb (length h) 2) lengths))
 
   pub two-hundredths : length h ≡ 2
-  two-hundredths = eqb-true (length h) 2 (and-right (leb 1 (length u) && leb (length u) 16) (eqb (length h) 2) lengths)
+  two-hundredths = eqb-true (length h) 2 (and-right (leb 1 (length u) && leb (length u) sumDigitsMost) (eqb (length h) 2) lengths)
 
   pub units-digits : every isDigit u ≡ true
   units-digits =
       sym e
-      ∙ and-right (leb 1 (length u) && leb (length u) 16 && eqb (length h) 2) t
-      (and-left (leb 1 (length u) && leb (length u) 16 && eqb (length h) 2 && t) w k)
+      ∙ and-right (leb 1 (length u) && leb (length u) sumDigitsMost && eqb (length h) 2) t
+      (and-left (leb 1 (length u) && leb (length u) sumDigitsMost && eqb (length h) 2 && t) w k)
 
   pub hundredths-digits : every isDigit h ≡ true
-  hundredths-digits = sym f ∙ and-right (leb 1 (length u) && leb (length u) 16 && eqb (length h) 2 && t) w k
+  hundredths-digits = sym f ∙ and-right (leb 1 (length u) && leb (length u) sumDigitsMost && eqb (length h) 2 && t) w k
 
-  pub units-below : decimal u < 10 ^ 16
-  units-below = digits-below (length u) 16 (decimal u) units-short (decimal-below u units-digits)
+  pub units-below : decimal u < 10 ^ sumDigitsMost
+  units-below = digits-below (length u) sumDigitsMost (decimal u) units-short (decimal-below u units-digits)
 
   pub hundredths-below : decimal h < 10 ^ 2
   hundredths-below = digits-below (length h) 2 (decimal h) (omega (arith, two-hundredths)) (decimal-below h hundredths-digits)
 
-  pub sum-small : decimal u * 100 + decimal h < 10 ^ 18
+  pub sum-small : decimal u * 100 + decimal h < 10 ^ (sumDigitsMost + 2)
   sum-small = omega (arith, units-below, hundredths-below)
 
--- every sum stays below the eighteenth power of ten
-parts-below : (u h : List ℕ) (n : ℕ) → sumFrom u h ≡ Of n → n < 10 ^ 18
+-- every sum stays below the power of ten for all its digits
+parts-below : (u h : List ℕ) (n : ℕ) → sumFrom u h ≡ Of n → n < 10 ^ (sumDigitsMost + 2)
 unfolding sumFrom
 parts-below u h n e =
-    by-test (leb 1 (length u) && leb (length u) 16 && eqb (length h) 2 && every isDigit u && every isDigit h)
+    by-test (leb 1 (length u) && leb (length u) sumDigitsMost && eqb (length h) 2 && every isDigit u && every isDigit h)
     (λ k. sum-small u h (every isDigit u) (every isDigit h) refl refl k) e
   where
-    by-test : (t : Bool) → (t ≡ true → decimal u * 100 + decimal h < 10 ^ 18)
-        → cond t (Of (decimal u * 100 + decimal h)) None ≡ Of n → n < 10 ^ 18
+    by-test : (t : Bool) → (t ≡ true → decimal u * 100 + decimal h < 10 ^ (sumDigitsMost + 2))
+        → cond t (Of (decimal u * 100 + decimal h)) None ≡ Of n → n < 10 ^ (sumDigitsMost + 2)
     by-test true small e = let m : decimal u * 100 + decimal h ≡ n = cc in omega (arith, small refl)
     by-test false small e = let z : _≡_ {A = ℕ} 0 1 = cc in omega arith
 
-pub sum-below : (s : List ℕ) (n : ℕ) → sumOf s ≡ Of n → n < 10 ^ 18
+pub sum-below : (s : List ℕ) (n : ℕ) → sumOf s ≡ Of n → n < 10 ^ (sumDigitsMost + 2)
 unfolding sumOf
 sum-below s n e = by-test (hasPoint s) e
   where
     by-test : (t : Bool)
-        → cond t (sumFrom (take (length s - 3) s) (drop (length s - 2) s)) (sumFrom s (bytes "00")) ≡ Of n → n < 10 ^ 18
+        → cond t (sumFrom (take (length s - 3) s) (drop (length s - 2) s)) (sumFrom s (bytes "00")) ≡ Of n → n < 10 ^ (sumDigitsMost + 2)
     by-test true e = parts-below (take (length s - 3) s) (drop (length s - 2) s) n e
     by-test false e = parts-below s (bytes "00") n e
 

@@ -11,7 +11,7 @@ use Rattle.shape.specs.Bytes.{isDigit}
 use Rattle.shape.specs.Numbers.{decimal}
 use Rattle.script.specs.Places.{isBlank, skipBlanks, wordEnd, isSame}
 use Rattle.script.specs.Said.{numberOf, sumFrom, sumOf, dateOf, eitherOf, limitOf, valueOf}
-use Rattle.script.specs.Words.{wordOf, wants}
+use Rattle.script.specs.Words.{valuesMost, wordOf, wants}
 use Rattle.script.specs.Lines.{takeFrom, taken, isWhole, lineOf}
 use Rattle.script.specs.declared.Word.{Word}
 use Rattle.script.specs.declared.Word.the-variants.{Blank, Room, Nobody, Owner, Direct, Indirect, Provider, Open, Close, Set, Submit, Back, Read, Slip, Unknown}
@@ -20,11 +20,11 @@ use Rattle.script.specs.declared.Line.{Line}
 -- a good line with these values, and a bad one of which these were read
 abbrev good : Word → List ℕ → ℕ → Line
 good word values rest =
-    record { word = word; good = true; count = length values; values = values ++ replicate (35 - length values) 0; rest = rest }
+    record { word = word; good = true; count = length values; values = values ++ replicate (valuesMost - length values) 0; rest = rest }
 
 abbrev bad : Word → List ℕ → ℕ → Line
 bad word values rest =
-    record { word = word; good = false; count = length values; values = values ++ replicate (35 - length values) 0; rest = rest }
+    record { word = word; good = false; count = length values; values = values ++ replicate (valuesMost - length values) 0; rest = rest }
 
 -- each text is read as the line beside it
 abbrev Read-so : List (String × Line) → Type 0

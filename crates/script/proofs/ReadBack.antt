@@ -6,6 +6,7 @@ use mathlib.Core.List.{List, [], _∷_, _++_}
 use Prim.Native.Nat.{ℕ, zero, suc, _+_, _-_, _*_, _/_, _%_, _^_, _≤_, _<_}
 use native.Mathlib.Omega.{arith}
 use native.Mathlib.Nat.{pow-succ'}
+use Prim.Native.Char.{code}
 use lib.Dec.{ltb}
 use lib.ListN.{length, drop, length-append}
 use lib.Seq.{take-at, drop-append-add, getD-at}
@@ -15,12 +16,12 @@ use Rattle.shape.specs.Numbers.{digitValue, decimalFrom, decimal}
 use Rattle.shape.specs.Fields.{whole, hundredths, kopecks}
 use Rattle.shape.specs.declared.value.Value.the-variants.{Of}
 use Rattle.shape.proofs.Tests.{and-left, and-right, range-in}
-use Rattle.script.specs.Said.{numberOf, sumOf}
+use Rattle.script.specs.Said.{numberDigitsMost, sumDigitsMost, numberOf, sumOf}
 use Rattle.script.proofs.Written.{sum-of-parts}
 
 -- the last digit of a number
 abbrev pub ones : ℕ → ℕ
-ones n = 48 + n % 10
+ones n = code "0" + n % 10
 
 -- the digits of a number, at most one more than k
 unfoldable pub digitsText : ℕ → ℕ → List ℕ
@@ -29,7 +30,7 @@ digitsText (suc k) n = cond (ltb n 10) (ones n ∷ []) (digitsText k (n / 10) ++
 
 -- a sum: its digits but for the last two, a point, and those two
 unfoldable pub sumText : ℕ → List ℕ
-sumText n = digitsText 15 (n / 10 / 10) ++ (46 ∷ ones (n / 10) ∷ ones n ∷ [])
+sumText n = digitsText (sumDigitsMost - 1) (n / 10 / 10) ++ (code "." ∷ ones (n / 10) ∷ ones n ∷ [])
 
 ones-digit : (n : ℕ) → isDigit (ones n) ≡ true
 unfolding isDigit
@@ -82,42 +83,47 @@ digits-digits (suc k) n = by-test (ltb n 10) (digits-digits k (n / 10))
     by-test false ih = every-append (digitsText k (n / 10)) (ones n ∷ []) ih (rw (ones-digit n))
 
 -- a number is read back
-pub number-read-back : (n : ℕ) → n < 10 ^ 19 → numberOf (digitsText 18 n) ≡ Of n
+pub number-read-back : (n : ℕ) → n < 10 ^ numberDigitsMost → numberOf (digitsText (numberDigitsMost - 1) n) ≡ Of n
 unfolding numberOf decimal
 number-read-back n h =
-    let l = digits-length 18 n in
-    rw (le-leb 1 (length (digitsText 18 n)) (l .0), le-leb (length (digitsText 18 n)) 19 (l .1), digits-digits 18 n, digits-right 18 n h)
+    let l = digits-length (numberDigitsMost - 1) n in
+    rw (
+      le-leb 1 (length (digitsText (numberDigitsMost - 1) n)) (l .0),
+      le-leb (length (digitsText (numberDigitsMost - 1) n)) numberDigitsMost (l .1),
+      digits-digits (numberDigitsMost - 1) n,
+      digits-right (numberDigitsMost - 1) n h,
+    )
 
 -- a sum by its digits w before the point and the last two, a and b
-module _ (w : List ℕ) (a b : ℕ) (lo : 1 ≤ length w) (hi : length w ≤ 16) (u : every isDigit w ≡ true)
+module _ (w : List ℕ) (a b : ℕ) (lo : 1 ≤ length w) (hi : length w ≤ sumDigitsMost) (u : every isDigit w ≡ true)
     (da : isDigit a ≡ true) (db : isDigit b ≡ true) where
-  all-length : length (w ++ (46 ∷ a ∷ b ∷ [])) ≡ length w + 3
-  all-length = length-append w (46 ∷ a ∷ b ∷ [])
+  all-length : length (w ++ (code "." ∷ a ∷ b ∷ [])) ≡ length w + 3
+  all-length = length-append w (code "." ∷ a ∷ b ∷ [])
 
-  whole-is : whole (w ++ (46 ∷ a ∷ b ∷ [])) ≡ w
-  whole-is = take-at w (46 ∷ a ∷ b ∷ []) (length (w ++ (46 ∷ a ∷ b ∷ [])) - 3) (omega (arith, all-length))
+  whole-is : whole (w ++ (code "." ∷ a ∷ b ∷ [])) ≡ w
+  whole-is = take-at w (code "." ∷ a ∷ b ∷ []) (length (w ++ (code "." ∷ a ∷ b ∷ [])) - 3) (omega (arith, all-length))
 
-  hundredths-are : hundredths (w ++ (46 ∷ a ∷ b ∷ [])) ≡ a ∷ b ∷ []
+  hundredths-are : hundredths (w ++ (code "." ∷ a ∷ b ∷ [])) ≡ a ∷ b ∷ []
   hundredths-are =
-      let e : length (w ++ (46 ∷ a ∷ b ∷ [])) - 2 ≡ length w + 1 = omega (arith, all-length) in
-      ap (λ (k : ℕ). drop k (w ++ (46 ∷ a ∷ b ∷ []))) e ∙ drop-append-add w (46 ∷ a ∷ b ∷ []) 1
+      let e : length (w ++ (code "." ∷ a ∷ b ∷ [])) - 2 ≡ length w + 1 = omega (arith, all-length) in
+      ap (λ (k : ℕ). drop k (w ++ (code "." ∷ a ∷ b ∷ []))) e ∙ drop-append-add w (code "." ∷ a ∷ b ∷ []) 1
 
-  pub sum-with : sumOf (w ++ (46 ∷ a ∷ b ∷ [])) ≡ Of (decimal w * 100 + decimal (a ∷ b ∷ []))
+  pub sum-with : sumOf (w ++ (code "." ∷ a ∷ b ∷ [])) ≡ Of (decimal w * 100 + decimal (a ∷ b ∷ []))
   unfolding kopecks
   sum-with =
-      sum-of-parts (w ++ (46 ∷ a ∷ b ∷ [])) (omega (arith, all-length)) (omega (arith, all-length))
-      (getD-at w 46 (a ∷ b ∷ []) 0 (length (w ++ (46 ∷ a ∷ b ∷ [])) - 3) (omega (arith, all-length)))
+      sum-of-parts (w ++ (code "." ∷ a ∷ b ∷ [])) (omega (arith, all-length)) (omega (arith, all-length))
+      (getD-at w (code ".") (a ∷ b ∷ []) 0 (length (w ++ (code "." ∷ a ∷ b ∷ [])) - 3) (omega (arith, all-length)))
       (ap (every isDigit) whole-is ∙ u)
       (ap (every isDigit) hundredths-are ∙ rw (da, db))
-      ∙ ap (λ (x : List ℕ). Of (decimal x * 100 + decimal (hundredths (w ++ (46 ∷ a ∷ b ∷ []))))) whole-is
+      ∙ ap (λ (x : List ℕ). Of (decimal x * 100 + decimal (hundredths (w ++ (code "." ∷ a ∷ b ∷ []))))) whole-is
       ∙ ap (λ (x : List ℕ). Of (decimal w * 100 + decimal x)) hundredths-are
 
 -- a sum is read back
-pub sum-read-back : (n : ℕ) → n < 10 ^ 18 → sumOf (sumText n) ≡ Of n
+pub sum-read-back : (n : ℕ) → n < 10 ^ (sumDigitsMost + 2) → sumOf (sumText n) ≡ Of n
 unfolding sumText decimal
 sum-read-back n h =
-    let l = digits-length 15 (n / 10 / 10) in
-    let d : decimalFrom 0 (digitsText 15 (n / 10 / 10)) ≡ n / 10 / 10 = digits-right 15 (n / 10 / 10) (omega arith) in
-    sum-with (digitsText 15 (n / 10 / 10)) (ones (n / 10)) (ones n) (l .0) (l .1) (digits-digits 15 (n / 10 / 10))
+    let l = digits-length (sumDigitsMost - 1) (n / 10 / 10) in
+    let d : decimalFrom 0 (digitsText (sumDigitsMost - 1) (n / 10 / 10)) ≡ n / 10 / 10 = digits-right (sumDigitsMost - 1) (n / 10 / 10) (omega arith) in
+    sum-with (digitsText (sumDigitsMost - 1) (n / 10 / 10)) (ones (n / 10)) (ones n) (l .0) (l .1) (digits-digits (sumDigitsMost - 1) (n / 10 / 10))
     (ones-digit (n / 10)) (ones-digit n)
     ∙ ap Of (omega arith)

@@ -11,7 +11,7 @@ use Rattle.shape.specs.declared.value.Value.{Value}
 use Rattle.shape.specs.declared.value.Value.the-variants.{Of, None}
 use Rattle.script.specs.Places.{skipBlanks, wordEnd, wordAt, nextWord}
 use Rattle.script.specs.Said.{valueOf}
-use Rattle.script.specs.Words.{wordOf, wants}
+use Rattle.script.specs.Words.{valuesMost, wordOf, wants}
 use Rattle.script.specs.Lines.{tookAll, tookSome, going, takeFrom, taken, lineOf}
 use Rattle.script.proofs.Runs.{word-within, blanks-within}
 
@@ -62,7 +62,7 @@ from-within (w ∷ wanted) s count values rest h =
 -- what is taken ends within the text
 pub taken-within : (wanted s : List ℕ) (from : ℕ) → from ≤ length s → taken wanted s from .rest ≤ length s
 unfolding taken
-taken-within wanted s from h = from-within wanted s 0 (replicate 35 0) from h
+taken-within wanted s from h = from-within wanted s 0 (replicate valuesMost 0) from h
 
 -- what is left of a line begins within it
 pub rest-within : (s : List ℕ) → lineOf s .rest ≤ length s

@@ -9,7 +9,7 @@ use Rattle.shape.specs.declared.value.Value.{Value}
 use Rattle.shape.specs.declared.value.Value.the-variants.{Of, None}
 use Rattle.script.specs.Places.{skipBlanks, wordAt, nextWord}
 use Rattle.script.specs.Said.{valueOf}
-use Rattle.script.specs.Words.{wordOf, wants}
+use Rattle.script.specs.Words.{valuesMost, wordOf, wants}
 use Rattle.script.specs.declared.Word.{Word}
 use Rattle.script.specs.declared.Word.the-variants.{Blank, Room, Nobody, Owner, Direct, Indirect, Provider, Open, Close, Set, Submit, Back, Read, Slip, Unknown}
 use Rattle.script.specs.declared.Line.{Line}
@@ -35,9 +35,9 @@ takeFrom (want ∷ wanted) s count values rest =
     (λ (n : ℕ). takeFrom wanted s (count + 1) (set values count n) (nextWord s rest))
     (tookSome count values rest)
 
--- the same from nothing: at most 35 values, zeros behind the last
+-- the same from nothing: at most `valuesMost` values, zeros behind the last
 unfoldable pub taken : List ℕ → List ℕ → ℕ → Taken
-taken wanted s from = takeFrom wanted s 0 (replicate 35 0) from
+taken wanted s from = takeFrom wanted s 0 (replicate valuesMost 0) from
 
 -- nothing stands behind what was taken
 abbrev pub isLast : Taken → List ℕ → Bool

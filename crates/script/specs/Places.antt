@@ -3,11 +3,12 @@
 use mathlib.Core.Bool.{Bool, true, false, not, _&&_, cond}
 use mathlib.Core.List.{List, [], _∷_}
 use Prim.Native.Nat.{ℕ, suc, _+_, _-_}
+use Prim.Native.Char.{code}
 use lib.Dec.{leb, eqb}
 use lib.ListN.{take, drop}
 
 unfoldable pub isBlank : ℕ → Bool
-isBlank b = leb b 32
+isBlank b = leb b (code " ")
 
 -- how many bytes in front pass the test
 abbrev pub run : (ℕ → Bool) → List ℕ → ℕ
@@ -28,7 +29,7 @@ found s i byte = i + run (λ (b : ℕ). not (eqb b byte)) (drop i s)
 
 -- where a line ends that begins at i: at the next line feed, or at the end
 unfoldable pub lineEnd : List ℕ → ℕ → ℕ
-lineEnd s i = found s i 10
+lineEnd s i = found s i (code "\n")
 
 -- the word that begins at i, empty at the end; and where the next one begins
 abbrev pub wordAt : List ℕ → ℕ → List ℕ

@@ -12,14 +12,21 @@ use Rattle.shape.specs.declared.value.Value.{Value}
 use Rattle.shape.specs.declared.value.Value.the-variants.{Of, None}
 use Rattle.script.specs.Places.{isSame}
 
+-- the most digits of a number, and of a sum before its point
+abbrev pub numberDigitsMost : ℕ
+numberDigitsMost = 19
+
+abbrev pub sumDigitsMost : ℕ
+sumDigitsMost = 16
+
 -- a number: 1 to 19 digits
 unfoldable pub numberOf : List ℕ → Value
-numberOf s = cond (leb 1 (length s) && leb (length s) 19 && every isDigit s) (Of (decimal s)) None
+numberOf s = cond (leb 1 (length s) && leb (length s) numberDigitsMost && every isDigit s) (Of (decimal s)) None
 
 -- a sum in kopecks by its 1 to 16 digits before the point and the two behind it
 unfoldable pub sumFrom : List ℕ → List ℕ → Value
 sumFrom units hundredths =
-    cond (leb 1 (length units) && leb (length units) 16 && eqb (length hundredths) 2
+    cond (leb 1 (length units) && leb (length units) sumDigitsMost && eqb (length hundredths) 2
     && every isDigit units && every isDigit hundredths)
     (Of (decimal units * 100 + decimal hundredths))
     None

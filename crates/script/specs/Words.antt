@@ -1,7 +1,7 @@
 -- The words that a line may begin with, and what each wants behind it.
 use mathlib.Core.Bool.{Bool, _||_, cond}
 use mathlib.Core.List.{List, [], _∷_, _++_}
-use Prim.Native.Nat.{ℕ}
+use Prim.Native.Nat.{ℕ, suc}
 use Prim.Native.Char.{code}
 use lib.Dec.{eqb}
 use lib.ListN.{getD, replicate}
@@ -38,7 +38,14 @@ isSilent s = eqb (getD s 0 0) 0 || eqb (getD s 0 0) (code "#")
 unfoldable pub wordOf : List ℕ → Word
 wordOf s = cond (isSilent s) Blank (named (roomNames ++ callNames) s)
 
--- what a word wants behind it, a value from each word: open as many sums as there are, up to 34; submit and slip leave the rest
+-- the most sums of an open, two for each bank; and the most values of a line, which are an open's seat and its sums
+abbrev pub sumsMost : ℕ
+sumsMost = 34
+
+abbrev pub valuesMost : ℕ
+valuesMost = suc sumsMost
+
+-- what a word wants behind it, a value from each word: open as many sums as there are, up to `sumsMost`; submit and slip leave the rest
 unfoldable pub wants : Word → List ℕ
 wants Blank = []
 wants Room = []
@@ -50,7 +57,7 @@ wants Direct = number ∷ number ∷ instant ∷ []
 wants Indirect = number ∷ number ∷ instant ∷ []
 wants Provider = number ∷ number ∷ instant ∷ []
 -- SEAT SUM SUM ..
-wants Open = number ∷ replicate 34 sum
+wants Open = number ∷ replicate sumsMost sum
 -- SEAT OPENING
 wants Close = number ∷ number ∷ []
 -- SEAT OPENING OWNER ACCOUNT OUT IN LTK LPO

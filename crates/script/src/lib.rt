@@ -15,6 +15,9 @@ ghost use mathlib.Core.Path.{_≡_};
 ghost use Rattle.script.specs.Places.{lineEnd};
 ghost use Rattle.script.specs.Lines.{isWhole, lineOf};
 
+// The most values of a line: an open's seat and its sums.
+pub const VALUES_MOST: usize = 35;
+
 // The words that a line begins with. Blank is a line that says nothing, Unknown one whose word is none of them.
 pub enum Word {
     Blank,
@@ -40,7 +43,7 @@ pub struct Line {
     pub word: Word,
     pub good: bool,
     pub count: usize,
-    pub values: [u64; 35],
+    pub values: [u64; VALUES_MOST],
     pub rest: usize,
 }
 

@@ -5,7 +5,7 @@ ghost use Rattle.script.specs.Places.{isBlank, skipBlanks, wordEnd, foun
 pub fn is_blank(b: u8) -> bool
     ensures { λ r. ⌜ r ≡ isBlank b ⌝ }
 {
-    b <= 32
+    b <= b' '
 }
 
 // The first place from there on that holds no blank, or the end.

@@ -9,11 +9,16 @@ ghost use Prim.Native.Nat.{_≤_};
 ghost use lib.ListN.{length};
 ghost use Rattle.shape.specs.Bytes.{every, isDigit};
 ghost use Rattle.shape.specs.Numbers.{decimal};
-ghost use Rattle.script.specs.Said.{numberOf, sumFrom, sumOf, dateOf, eitherOf, limitOf};
+ghost use Rattle.script.specs.Said.{numberDigitsMost, numberOf, sumFrom, sumOf, dateOf, eitherOf, limitOf};
+
+// The most digits of a number, and of a sum before its point.
+const NUMBER_DIGITS_MOST: usize = 19;
+
+const SUM_DIGITS_MOST: usize = 16;
 
 // The number that digits write. Nineteen of them fit.
 fn digits_number(s: &[u8]) -> u64
-    requires { ⌜ (length (now s) ≤ 19) × (every isDigit (now s) ≡ true) ⌝ }
+    requires { ⌜ (length (now s) ≤ numberDigitsMost) × (every isDigit (now s) ≡ true) ⌝ }
     ensures { λ r. ⌜ r ≡ decimal (now (s .entry)) ⌝ }
 {
     let mut n: u64 = 0;
@@ -29,7 +34,7 @@ fn digits_number(s: &[u8]) -> u64
 pub fn number_of(s: &[u8]) -> Value
     ensures { λ r. ⌜ r ≡ numberOf (now (s .entry)) ⌝ }
 {
-    if (1 <= s.len()) & (s.len() <= 19) & all_within(DIGIT, s) {
+    if (1 <= s.len()) & (s.len() <= NUMBER_DIGITS_MOST) & all_within(DIGIT, s) {
         return Value::Of(digits_number(s));
     }
     Value::None
@@ -40,7 +45,7 @@ fn sum_from(units: &[u8], hundredths: &[u8]) -> Value
     ensures { λ r. ⌜ r ≡ sumFrom (now (units .entry)) (now (hundredths .entry)) ⌝ }
 {
     if (1 <= units.len())
-        & (units.len() <= 16)
+        & (units.len() <= SUM_DIGITS_MOST)
         & (hundredths.len() == 2)
         & all_within(DIGIT, units)
         & all_within(DIGIT, hundredths)

@@ -1,4 +1,5 @@
 // The values behind a line's word.
+use crate::VALUES_MOST;
 use crate::Word;
 use crate::text::skip_blanks;
 use crate::text::word_end;
@@ -12,14 +13,14 @@ ghost use mathlib.Core.Path.{_≡_};
 ghost use Prim.Native.Nat.{_≤_};
 ghost use lib.ListN.{length};
 ghost use Rattle.script.specs.Said.{valueOf};
-ghost use Rattle.script.specs.Words.{wants};
+ghost use Rattle.script.specs.Words.{valuesMost, wants};
 ghost use Rattle.script.specs.Lines.{taken};
 
 // What was taken: whether it is all that was wanted, how many values, the values, and where the next word begins.
 pub struct Taken {
     pub all: bool,
     pub count: usize,
-    pub values: [u64; 35],
+    pub values: [u64; VALUES_MOST],
     pub rest: usize,
 }
 
@@ -40,10 +41,10 @@ fn value_of(want: u8, s: &[u8]) -> Value
 
 // Takes a word for each want, up to the first that does not say what is wanted. Past the last stands an empty one, which says nothing.
 fn take_values(wants: &[u8], s: &[u8], from: usize) -> Taken
-    requires { ⌜ (length (now wants) ≤ 35) × (from ≤ length (now s)) ⌝ }
+    requires { ⌜ (length (now wants) ≤ valuesMost) × (from ≤ length (now s)) ⌝ }
     ensures { λ r. ⌜ r ≡ taken (now (wants .entry)) (now (s .entry)) from ⌝ }
 {
-    let mut values = [0u64; 35];
+    let mut values = [0u64; VALUES_MOST];
     let mut count = 0;
     let mut rest = from;
     while count < wants.len() {

@@ -13,7 +13,7 @@ use lib.Seq.{drop-cons}
 use borrow.Author.Tests.{eq-eqb, ne-eqb}
 use Rattle.shape.specs.Bytes.{every}
 use Rattle.shape.specs.Patterns.{within, fits}
-use Rattle.shape.specs.Numbers.{digitValue, decimalFrom}
+use Rattle.shape.specs.Numbers.{digitsMost, digitValue, decimalFrom}
 use Rattle.shape.specs.Stored.{beforeZero}
 use Rattle.shape.proofs.Tests.{and-right, and-false}
 
@@ -79,9 +79,9 @@ module _ (s : List ℕ) (i n : ℕ) where
 pub decimal-more : (i n d : ℕ) → n + 23 ≤ 23 * 10 ^ i → d ≤ 207 → n * 10 + d + 23 ≤ 23 * 10 ^ (i + 1)
 decimal-more i n d h k = rw (add-one i, pow-succ' 10 i) (omega arith)
 
-pub decimal-small : (i n : ℕ) → i ≤ 14 → n + 23 ≤ 23 * 10 ^ i → n < 10 ^ 16
+pub decimal-small : (i n : ℕ) → i ≤ digitsMost → n + 23 ≤ 23 * 10 ^ i → n < 10 ^ (digitsMost + 2)
 decimal-small i n l h =
-    let p : 10 ^ i ≤ 10 ^ 14 = pow-le-pow-right {n = 10} (lit< tt) {i = i} {j = 14} l in omega arith
+    let p : 10 ^ i ≤ 10 ^ digitsMost = pow-le-pow-right {n = 10} (lit< tt) {i = i} {j = digitsMost} l in omega arith
 
 -- a text that fits a pattern is as long as the pattern
 pub fits-length : (p s : List ℕ) → fits p s ≡ true → length s ≡ length p

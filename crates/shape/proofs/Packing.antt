@@ -7,24 +7,24 @@ use Prim.Native.Nat.{ℕ, _+_, _/_, _%_, _^_, _<_}
 use native.Mathlib.Omega.{arith}
 use lib.ListN.{getD, replicate}
 use Rattle.shape.specs.Bits.{cut}
-use Rattle.shape.specs.Bytes.{isHex}
+use Rattle.shape.specs.Bytes.{byteBits, isHex}
 use Rattle.shape.specs.Numbers.{hexValue}
-use Rattle.shape.specs.Stored.{sevenFrom, sevenBytes, fourFrom, groups, hexDigit, groupText}
+use Rattle.shape.specs.Stored.{hexBits, groupBits, sevenFrom, sevenBytes, fourFrom, groups, hexDigit, groupText}
 use Rattle.shape.proofs.Bits.{cut-joined}
 use Rattle.shape.proofs.Hex.{hex-small, hex-written, four-small}
 
 -- seven bytes stand in their number
-pub seven-back : (s : List ℕ) (i : ℕ) → ((k : ℕ) → getD s k 0 < 2 ^ 8)
+pub seven-back : (s : List ℕ) (i : ℕ) → ((k : ℕ) → getD s k 0 < 2 ^ byteBits)
     → sevenBytes (sevenFrom s i) ≡ map (λ (k : ℕ). getD s (i + k) 0) (0 ∷ 1 ∷ 2 ∷ 3 ∷ 4 ∷ 5 ∷ 6 ∷ [])
 unfolding sevenFrom
 seven-back s i h =
     ap (map (λ (f : ℕ × ℕ). f .1))
-    (cut-joined 0 (map {B = ℕ × ℕ} (λ (k : ℕ). (8, getD s (i + k) 0)) (0 ∷ 1 ∷ 2 ∷ 3 ∷ 4 ∷ 5 ∷ 6 ∷ []))
+    (cut-joined 0 (map {B = ℕ × ℕ} (λ (k : ℕ). (byteBits, getD s (i + k) 0)) (0 ∷ 1 ∷ 2 ∷ 3 ∷ 4 ∷ 5 ∷ 6 ∷ []))
     (h (i + 0), (h (i + 1), (h (i + 2), (h (i + 3), (h (i + 4), (h (i + 5), (h (i + 6), tt))))))))
 
 -- the text of one group
 abbrev fourDigits : ℕ → List ℕ
-fourDigits n = map (λ (f : ℕ × ℕ). hexDigit (f .1)) (cut (replicate 4 4) n)
+fourDigits n = map (λ (f : ℕ × ℕ). hexDigit (f .1)) (cut (replicate 4 hexBits) n)
 
 -- the four bytes from a place on
 abbrev pub fourBytes : List ℕ → ℕ → List ℕ
@@ -35,8 +35,8 @@ abbrev pub FourHex : List ℕ → ℕ → Type 0
 FourHex s i =
     (isHex (getD s (i + 0) 0) ≡ true) × (isHex (getD s (i + 1) 0) ≡ true) × (isHex (getD s (i + 2) 0) ≡ true) × (isHex (getD s (i + 3) 0) ≡ true)
 
--- four digits are worth less than 2 ^ 16
-pub four-fit : (s : List ℕ) (i : ℕ) → FourHex s i → fourFrom s i < 2 ^ 16
+-- four digits are worth less than a group of bits holds
+pub four-fit : (s : List ℕ) (i : ℕ) → FourHex s i → fourFrom s i < 2 ^ groupBits
 four-fit s i h = four-small s i (h .0) (h .1) (h .2) (h .3)
 
 -- four digits stand in their number
@@ -44,16 +44,16 @@ four-back : (s : List ℕ) (i : ℕ) → FourHex s i → fourDigits (fourFrom s 
 unfolding fourFrom
 four-back s i h =
     ap (map (λ (f : ℕ × ℕ). hexDigit (f .1)))
-    (cut-joined 0 (map {B = ℕ × ℕ} (λ (k : ℕ). (4, hexValue (getD s (i + k) 0))) (0 ∷ 1 ∷ 2 ∷ 3 ∷ []))
+    (cut-joined 0 (map {B = ℕ × ℕ} (λ (k : ℕ). (hexBits, hexValue (getD s (i + k) 0))) (0 ∷ 1 ∷ 2 ∷ 3 ∷ []))
     (hex-small _ (h .0), (hex-small _ (h .1), (hex-small _ (h .2), (hex-small _ (h .3), tt)))))
     ∙ (λ j. hex-written _ (h .0) j ∷ hex-written _ (h .1) j ∷ hex-written _ (h .2) j ∷ hex-written _ (h .3) j ∷ [])
 
 -- four groups stand in their number
-groups-back : (a b c d : ℕ) → a < 2 ^ 16 → b < 2 ^ 16 → c < 2 ^ 16 → d < 2 ^ 16
-    → map (λ (f : ℕ × ℕ). f .1) (cut (replicate 4 16) (groups a b c d)) ≡ a ∷ b ∷ c ∷ d ∷ []
+groups-back : (a b c d : ℕ) → a < 2 ^ groupBits → b < 2 ^ groupBits → c < 2 ^ groupBits → d < 2 ^ groupBits
+    → map (λ (f : ℕ × ℕ). f .1) (cut (replicate 4 groupBits) (groups a b c d)) ≡ a ∷ b ∷ c ∷ d ∷ []
 unfolding groups
 groups-back a b c d ha hb hc hd =
-    ap (map (λ (f : ℕ × ℕ). f .1)) (cut-joined 0 ((16, a) ∷ (16, b) ∷ (16, c) ∷ (16, d) ∷ []) (ha, (hb, (hc, (hd, tt)))))
+    ap (map (λ (f : ℕ × ℕ). f .1)) (cut-joined 0 ((groupBits, a) ∷ (groupBits, b) ∷ (groupBits, c) ∷ (groupBits, d) ∷ []) (ha, (hb, (hc, (hd, tt)))))
 
 -- sixteen digits in four groups stand in their number
 pub half-back : (s : List ℕ) (i j k l : ℕ) → FourHex s i → FourHex s j → FourHex s k → FourHex s l
@@ -76,7 +76,7 @@ last-group-digit s i a b c h =
     omega (arith, hex-small (getD s (i + 0) 0) (h .0), hex-small (getD s (i + 1) 0) (h .1), hex-small (getD s (i + 2) 0) (h .2), hex-small (getD s (i + 3) 0) (h .3))
 
 -- the first digit of the first group stands at the top
-pub first-group-digit : (s : List ℕ) (i : ℕ) (b c d : ℕ) → FourHex s i → b < 2 ^ 16 → c < 2 ^ 16 → d < 2 ^ 16
+pub first-group-digit : (s : List ℕ) (i : ℕ) (b c d : ℕ) → FourHex s i → b < 2 ^ groupBits → c < 2 ^ groupBits → d < 2 ^ groupBits
     → groups (fourFrom s i) b c d / 2 ^ 60 ≡ hexValue (getD s (i + 0) 0)
 unfolding groups fourFrom
 first-group-digit s i b c d h hb hc hd =

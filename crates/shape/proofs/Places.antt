@@ -9,7 +9,7 @@ use native.Mathlib.Nat.{suc-inj, le-of-suc-le-suc}
 use lib.Dec.{leb, eqb, lit<}
 use lib.ListN.{length, getD, take}
 use borrow.Author.Tests.{ne-eqb}
-use Rattle.shape.specs.Bytes.{every, isText}
+use Rattle.shape.specs.Bytes.{byteBits, every, isText}
 use Rattle.shape.specs.Patterns.{within, fits}
 use Rattle.shape.specs.Stored.{beforeZero}
 use Rattle.shape.proofs.Tests.{and-left, and-right, in-range}
@@ -41,7 +41,7 @@ text-range b e =
     (and-left (leb 32 b && leb b 126 && not (eqb b 60) && not (eqb b 62)) (not (eqb b 38)) e)))
 
 -- at each place of a text, and past its end, eight bits are enough
-pub text-small : (s : List ℕ) → every isText s ≡ true → (i : ℕ) → getD s i 0 < 2 ^ 8
+pub text-small : (s : List ℕ) → every isText s ≡ true → (i : ℕ) → getD s i 0 < 2 ^ byteBits
 text-small [] e i = lit< tt
 text-small (b ∷ s) e zero = let r = text-range b (and-left (isText b) (every isText s) e) in omega arith
 text-small (b ∷ s) e (suc i) = text-small s (and-right (isText b) (every isText s) e) i

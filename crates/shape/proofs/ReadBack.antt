@@ -4,7 +4,7 @@ use mathlib.Core.Path.{_≡_, refl, sym, ap, subst, _∙_}
 use mathlib.Core.Bool.{true, _&&_, false≢true}
 use mathlib.Core.List.{List, _∷_, _++_}
 use mathlib.Core.Logic.{_↔_}
-use Prim.Native.Nat.{ℕ, _≤_, _/_, _%_, _^_}
+use Prim.Native.Nat.{ℕ, _*_, _≤_, _/_, _%_, _^_}
 use native.Mathlib.Omega.{arith}
 use lib.Dec.{leb, eqb, lit<}
 use lib.ListN.{length, getD, take}
@@ -12,8 +12,9 @@ use borrow.Author.Tests.{leb-true, eqb-true, eq-eqb}
 use Rattle.shape.specs.Bytes.{every, isText, isDigit, isHex, isVariant}
 use Rattle.shape.specs.Patterns.{within, fits, uetrPattern}
 use Rattle.shape.specs.Numbers.{hexValue}
-use Rattle.shape.specs.Fields.{isIdentifier}
-use Rattle.shape.specs.Stored.{sevenFrom, identifierOf, allBytes, identifierText, sameIdentifier, beforeZero, sevenBytes, fourFrom, groups, isUetr, uetrOf, uetrText, sameUetr, hexDigit}
+use Rattle.shape.specs.Fields.{identifierMost, isIdentifier}
+use Rattle.shape.specs.Stored.{storedBytes, sevenFrom, identifierOf, allBytes, identifierText, sameIdentifier, beforeZero, sevenBytes}
+use Rattle.shape.specs.Stored.{fourFrom, groups, isUetr, uetrOf, uetrText, sameUetr, hexDigit}
 use Rattle.shape.specs.declared.stored.Identifier.{Identifier}
 use Rattle.shape.specs.declared.stored.Uetr.{Uetr}
 use Rattle.shape.proofs.Tests.{and-left, and-right}
@@ -23,29 +24,33 @@ use Rattle.shape.proofs.Places.{bytesFrom, bytes-whole, text-small, bef
 use Rattle.shape.proofs.Packing.{seven-back, FourHex, four-fit, half-back, last-group-digit, first-group-digit}
 
 -- an identifier is short, and a text
-identifier-parts : (s : List ℕ) → isIdentifier s ≡ true → (length s ≤ 35) × (every isText s ≡ true)
+identifier-parts : (s : List ℕ) → isIdentifier s ≡ true → (length s ≤ identifierMost) × (every isText s ≡ true)
 unfolding isIdentifier
 identifier-parts s e =
-    let h = and-left (leb 1 (length s) && leb (length s) 35) (every isText s) e in
-    (leb-true (length s) 35 (and-right (leb 1 (length s)) (leb (length s) 35) h), and-right (leb 1 (length s) && leb (length s) 35) (every isText s) e)
+    let some = leb 1 (length s) in
+    let few = leb (length s) identifierMost in
+    let h = and-left (some && few) (every isText s) e in
+    (leb-true (length s) identifierMost (and-right some few h), and-right (some && few) (every isText s) e)
 
 -- the five numbers hold the bytes at the places 0 to 34
 identifier-bytes : (s : List ℕ) → every isText s ≡ true
-    → sevenBytes (sevenFrom s 0) ++ (sevenBytes (sevenFrom s 7) ++ (sevenBytes (sevenFrom s 14) ++ (sevenBytes (sevenFrom s 21) ++ sevenBytes (sevenFrom s 28))))
-    ≡ bytesFrom s 0 35
+    → sevenBytes (sevenFrom s 0) ++ (sevenBytes (sevenFrom s storedBytes) ++ (sevenBytes (sevenFrom s (2 * storedBytes))
+    ++ (sevenBytes (sevenFrom s (3 * storedBytes)) ++ sevenBytes (sevenFrom s (4 * storedBytes)))))
+    ≡ bytesFrom s 0 identifierMost
 identifier-bytes s e =
     let h = text-small s e in
-    λ i. seven-back s 0 h i ++ (seven-back s 7 h i ++ (seven-back s 14 h i ++ (seven-back s 21 h i ++ seven-back s 28 h i)))
+    λ i. seven-back s 0 h i ++ (seven-back s storedBytes h i ++ (seven-back s (2 * storedBytes) h i
+    ++ (seven-back s (3 * storedBytes) h i ++ seven-back s (4 * storedBytes) h i)))
 
 -- an identifier read back is the one that was stored
 pub identifier-back : (s : List ℕ) → isIdentifier s ≡ true → identifierText (identifierOf s) ≡ s
 unfolding identifierOf identifierText allBytes
 identifier-back s e =
     let p = identifier-parts s e in
-    rw e (ap beforeZero (identifier-bytes s (p .1)) ∙ before-zero s 35 (p .1) (p .0))
+    rw e (ap beforeZero (identifier-bytes s (p .1)) ∙ before-zero s identifierMost (p .1) (p .0))
 
 -- a stored text has at most 35 bytes, and stands in front of the others
-pub text-short : (x : Identifier) → length (identifierText x) ≤ 35
+pub text-short : (x : Identifier) → length (identifierText x) ≤ identifierMost
 unfolding identifierText allBytes
 text-short x = before-short (allBytes x)
 

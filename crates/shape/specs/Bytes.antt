@@ -5,6 +5,10 @@ use Prim.Native.Nat.{ℕ}
 use Prim.Native.Char.{Char, code}
 use lib.Dec.{leb, eqb}
 
+-- the bits of a byte
+abbrev pub byteBits : ℕ
+byteBits = 8
+
 abbrev between : Char → Char → ℕ → Bool
 between lo hi b = leb (code lo) b && leb b (code hi)
 

@@ -9,6 +9,13 @@ use Rattle.shape.specs.Numbers.{decimal}
 use Rattle.shape.specs.declared.value.Value.{Value}
 use Rattle.shape.specs.declared.value.Value.the-variants.{Of, None}
 
+-- the calendar's first and last year
+abbrev pub yearFirst : ℕ
+yearFirst = 2000
+
+abbrev pub yearLast : ℕ
+yearLast = 2099
+
 abbrev pub year : ℕ → ℕ
 year n = n / 10000
 
@@ -34,7 +41,7 @@ daysIn y m =
 -- a real date of 2000 to 2099
 unfoldable pub isDate : ℕ → Bool
 isDate n =
-    leb 2000 (year n) && leb (year n) 2099
+    leb yearFirst (year n) && leb (year n) yearLast
     && leb 1 (month n) && leb (month n) 12
     && leb 1 (day n) && leb (day n) (daysIn (year n) (month n))
 
@@ -44,7 +51,7 @@ dayBefore n =
     cond (not (isDate n)) None
     (cond (ltb 1 (day n)) (Of (n - 1))
     (cond (ltb 1 (month n)) (Of (dated (year n) (month n - 1) (daysIn (year n) (month n - 1))))
-    (cond (ltb 2000 (year n)) (Of (dated (year n - 1) 12 31))
+    (cond (ltb yearFirst (year n)) (Of (dated (year n - 1) 12 31))
     None)))
 
 -- the date of a time

@@ -3,9 +3,10 @@
 use mathlib.Core.Bool.{Bool, not, _&&_, _||_, cond}
 use mathlib.Core.List.{List, [], _∷_}
 use Prim.Native.Nat.{ℕ, _+_, _-_, _*_}
+use Prim.Native.Char.{code}
 use lib.Dec.{leb, ltb, eqb}
 use lib.ListN.{length, getD, take, drop}
-use Rattle.shape.specs.Bytes.{every, isDigit, isText}
+use Rattle.shape.specs.Bytes.{byteBits, every, isDigit, isText}
 use Rattle.shape.specs.Patterns.{fits, codePattern, currencyPattern, ibanPattern, accountPattern, messagePattern, sepPattern, aspPattern, pacs008Pattern}
 use Rattle.shape.specs.Bits.{joined}
 use Rattle.shape.specs.Numbers.{digitValue, decimal}
@@ -33,12 +34,19 @@ hundredths s = drop (length s - 2) s
 unfoldable pub kopecks : List ℕ → ℕ
 kopecks s = decimal (whole s) * 100 + decimal (hundredths s)
 
+-- the bytes of an amount: 1 to 11 digits, point, two digits
+abbrev pub amountBytesLeast : ℕ
+amountBytesLeast = 4
+
+abbrev pub amountBytesMost : ℕ
+amountBytesMost = 14
+
 -- 1 to 11 digits without needless zero in front, point, two digits, above zero
 unfoldable pub isAmount : List ℕ → Bool
 isAmount s =
-    leb 4 (length s) && leb (length s) 14
-    && every isDigit (whole s) && (eqb (length s) 4 || not (eqb (getD s 0 0) 48))
-    && eqb (point s) 46 && every isDigit (hundredths s)
+    leb amountBytesLeast (length s) && leb (length s) amountBytesMost
+    && every isDigit (whole s) && (eqb (length s) amountBytesLeast || not (eqb (getD s 0 0) (code "0")))
+    && eqb (point s) (code ".") && every isDigit (hundredths s)
     && ltb 0 (kopecks s)
 
 unfoldable pub amountOf : List ℕ → Value
@@ -46,7 +54,7 @@ amountOf s = cond (isAmount s) (Of (kopecks s)) None
 
 -- three bytes as one number
 unfoldable pub threeBytes : List ℕ → ℕ
-threeBytes s = joined 0 ((8, getD s 0 0) ∷ (8, getD s 1 0) ∷ (8, getD s 2 0) ∷ [])
+threeBytes s = joined 0 ((byteBits, getD s 0 0) ∷ (byteBits, getD s 1 0) ∷ (byteBits, getD s 2 0) ∷ [])
 
 -- a currency: three capitals
 unfoldable pub currencyOf : List ℕ → Value
@@ -71,9 +79,13 @@ isIban s = fits ibanPattern s
 unfoldable pub systemOf : List ℕ → System
 systemOf s = cond (fits sepPattern s) Sep (cond (fits aspPattern s) Asp Neither)
 
+-- the most bytes of an identifier
+abbrev pub identifierMost : ℕ
+identifierMost = 35
+
 -- 1 to 35 bytes of a text
 unfoldable pub isIdentifier : List ℕ → Bool
-isIdentifier s = leb 1 (length s) && leb (length s) 35 && every isText s
+isIdentifier s = leb 1 (length s) && leb (length s) identifierMost && every isText s
 
 -- an identifier that begins `pacs.008`
 unfoldable pub namesPacs008 : List ℕ → Bool

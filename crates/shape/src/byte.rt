@@ -3,6 +3,9 @@ ghost use mathlib.Core.Path.{_≡_};
 ghost use lib.ListN.{getD};
 ghost use Rattle.shape.specs.Bytes.{isDigit, isCapital, isSmall, isLetter, isDigitOrCapital, isHex, isVariant, isText};
 
+// How many values a byte has.
+pub const BYTE_VALUES: u64 = 1 << 8;
+
 pub fn is_digit(b: u8) -> bool
     ensures { λ r. ⌜ r ≡ isDigit b ⌝ }
 {

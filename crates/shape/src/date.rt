@@ -7,6 +7,11 @@ ghost use Prim.Native.Nat.{_<_};
 ghost use lib.ListN.{length};
 ghost use Rattle.shape.specs.Dates.{isLeap, daysIn, isDate, dayBefore, isTime, dateOf, timeOf, timeNumber};
 
+// The calendar's first and last year.
+const YEAR_FIRST: u64 = 2000;
+
+const YEAR_LAST: u64 = 2099;
+
 pub fn is_leap(year: u64) -> bool
     ensures { λ r. ⌜ r ≡ isLeap year ⌝ }
 {
@@ -35,8 +40,8 @@ pub fn is_date(n: u64) -> bool
     let year = n / 10000;
     let month = n / 100 % 100;
     let day = n % 100;
-    (2000 <= year)
-        & (year <= 2099)
+    (YEAR_FIRST <= year)
+        & (year <= YEAR_LAST)
         & (1 <= month)
         & (month <= 12)
         & (1 <= day)
@@ -58,7 +63,7 @@ pub fn day_before(n: u64) -> Value
     if 1 < month {
         return Value::Of(year * 10000 + (month - 1) * 100 + days_in(year, month - 1));
     }
-    if 2000 < year {
+    if YEAR_FIRST < year {
         return Value::Of((year - 1) * 10000 + 12 * 100 + 31);
     }
     Value::None

@@ -1,4 +1,5 @@
 // What a field's text is. A text that has not the shape gives nothing.
+use crate::byte::BYTE_VALUES;
 use crate::byte::peek;
 use crate::date::is_date;
 use crate::number::decimal;
@@ -11,7 +12,16 @@ use crate::value::Value;
 ghost use mathlib.Core.Path.{_≡_};
 ghost use Prim.Native.Nat.{_≤_};
 ghost use lib.ListN.{length};
-ghost use Rattle.shape.specs.Fields.{codeOf, kopecks, isAmount, amountOf, threeBytes, currencyOf, accountOf, messageCodeOf, isIban, systemOf, isIdentifier, namesPacs008};
+ghost use Rattle.shape.specs.Fields.{amountBytesLeast, amountBytesMost, codeOf, kopecks, isAmount, amountOf, threeBytes, currencyOf};
+ghost use Rattle.shape.specs.Fields.{accountOf, messageCodeOf, isIban, systemOf, isIdentifier, namesPacs008};
+
+// The bytes of an amount: 1 to 11 digits, the point and two digits.
+const AMOUNT_BYTES_LEAST: usize = 4;
+
+const AMOUNT_BYTES_MOST: usize = 14;
+
+// The most bytes of an identifier.
+pub const IDENTIFIER_MOST: usize = 35;
 
 // An account by its name: which of the two, whose, in which currency. A text that names none is all zeros: no currency is 0.
 pub struct Account {
@@ -39,7 +49,7 @@ pub fn code_of(s: &[u8]) -> Value
 
 // The kopecks of a text that is long enough to have a point, and short enough for its number to fit.
 fn kopecks(s: &[u8]) -> u64
-    requires { ⌜ (4 ≤ length (now s)) × (length (now s) ≤ 14) ⌝ }
+    requires { ⌜ (amountBytesLeast ≤ length (now s)) × (length (now s) ≤ amountBytesMost) ⌝ }
     ensures { λ r. ⌜ r ≡ kopecks (now (s .entry)) ⌝ }
 {
     let n = s.len();
@@ -53,16 +63,16 @@ pub fn is_amount(s: &[u8]) -> bool
     ensures { λ r. ⌜ r ≡ isAmount (now (s .entry)) ⌝ }
 {
     let n = s.len();
-    if n < 4 {
+    if n < AMOUNT_BYTES_LEAST {
         return false;
     }
-    if 14 < n {
+    if AMOUNT_BYTES_MOST < n {
         return false;
     }
     let units = n - 3;
     let cents = n - 2;
     all_within(DIGIT, &s[..units])
-        & ((n == 4) | (s[0] != b'0'))
+        & ((n == AMOUNT_BYTES_LEAST) | (s[0] != b'0'))
         & (s[units] == b'.')
         & all_within(DIGIT, &s[cents..])
         & (0 < kopecks(s))
@@ -82,7 +92,7 @@ pub fn amount_of(s: &[u8]) -> Value
 fn three_bytes(s: &[u8]) -> u64
     ensures { λ r. ⌜ r ≡ threeBytes (now (s .entry)) ⌝ }
 {
-    (peek(s, 0) as u64 * 256 + peek(s, 1) as u64) * 256 + peek(s, 2) as u64
+    (peek(s, 0) as u64 * BYTE_VALUES + peek(s, 1) as u64) * BYTE_VALUES + peek(s, 2) as u64
 }
 
 // A currency, three capitals, as one number.
@@ -150,7 +160,7 @@ pub fn system_of(s: &[u8]) -> System
 pub fn is_identifier(s: &[u8]) -> bool
     ensures { λ r. ⌜ r ≡ isIdentifier (now (s .entry)) ⌝ }
 {
-    (1 <= s.len()) & (s.len() <= 35) & all_within(TEXT, s)
+    (1 <= s.len()) & (s.len() <= IDENTIFIER_MOST) & all_within(TEXT, s)
 }
 
 // Whether the text is an identifier that names a pacs.008.

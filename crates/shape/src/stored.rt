@@ -1,12 +1,23 @@
 // Identifiers and UETRs as whole numbers, for storing and comparing. All zeros stand for no text.
+use crate::byte::BYTE_VALUES;
 use crate::byte::peek;
+use crate::field::IDENTIFIER_MOST;
 use crate::field::is_identifier;
 use crate::number::hex_value;
 use crate::pattern::matches;
 ghost use mathlib.Core.Path.{_≡_};
-ghost use Prim.Native.Nat.{_<_, _≤_, _+_, _^_};
+ghost use Prim.Native.Nat.{_<_, _≤_, _+_, _*_, _^_};
 ghost use lib.ListN.{length};
-ghost use Rattle.shape.specs.Stored.{sevenFrom, identifierOf, sameIdentifier, beforeZero, sevenBytes, allBytes, storedText, fourFrom, groups, isUetr, uetrOf, sameUetr};
+ghost use Rattle.shape.specs.Stored.{storedBytes, sevenFrom, identifierOf, sameIdentifier, beforeZero, sevenBytes, allBytes, storedText};
+ghost use Rattle.shape.specs.Stored.{groupBits, fourFrom, groups, isUetr, uetrOf, sameUetr};
+
+// How many bytes of an identifier one number stores.
+const STORED_BYTES: usize = 7;
+
+// How many values a hexadecimal digit has, and a group of four of them.
+const HEX_VALUES: u64 = 1 << 4;
+
+const GROUP_VALUES: u64 = 1 << 16;
 
 // The 35 bytes of an identifier, seven to a number.
 pub struct Identifier {
@@ -25,12 +36,13 @@ pub struct Uetr {
 
 // Seven bytes from a place on.
 fn seven_from(s: &[u8], i: usize) -> u64
-    requires { ⌜ i ≤ 28 ⌝ }
+    requires { ⌜ i ≤ 4 * storedBytes ⌝ }
     ensures { λ r. ⌜ r ≡ sevenFrom (now (s .entry)) i ⌝ }
 {
-    let top = (peek(s, i) as u64 * 256 + peek(s, i + 1) as u64) * 256 + peek(s, i + 2) as u64;
-    let middle = (top * 256 + peek(s, i + 3) as u64) * 256 + peek(s, i + 4) as u64;
-    (middle * 256 + peek(s, i + 5) as u64) * 256 + peek(s, i + 6) as u64
+    let top = (peek(s, i) as u64 * BYTE_VALUES + peek(s, i + 1) as u64) * BYTE_VALUES
+        + peek(s, i + 2) as u64;
+    let middle = (top * BYTE_VALUES + peek(s, i + 3) as u64) * BYTE_VALUES + peek(s, i + 4) as u64;
+    (middle * BYTE_VALUES + peek(s, i + 5) as u64) * BYTE_VALUES + peek(s, i + 6) as u64
 }
 
 // An identifier in its stored form.
@@ -40,10 +52,10 @@ pub fn identifier_of(s: &[u8]) -> Identifier
     if is_identifier(s) {
         return Identifier {
             first: seven_from(s, 0),
-            second: seven_from(s, 7),
-            third: seven_from(s, 14),
-            fourth: seven_from(s, 21),
-            fifth: seven_from(s, 28),
+            second: seven_from(s, STORED_BYTES),
+            third: seven_from(s, 2 * STORED_BYTES),
+            fourth: seven_from(s, 3 * STORED_BYTES),
+            fifth: seven_from(s, 4 * STORED_BYTES),
         };
     }
     Identifier {
@@ -57,27 +69,27 @@ pub fn identifier_of(s: &[u8]) -> Identifier
 
 // The text of a stored identifier: the 35 bytes of its numbers, and how many of them come before the first zero.
 pub struct Text {
-    pub bytes: [u8; 35],
+    pub bytes: [u8; IDENTIFIER_MOST],
     pub length: usize,
 }
 
 // Seven bytes of a number, the highest first.
-fn seven_bytes(n: u64) -> [u8; 7]
+fn seven_bytes(n: u64) -> [u8; STORED_BYTES]
     ensures { λ r. ⌜ r ≡ sevenBytes n ⌝ }
 {
     [
-        (n / 281474976710656 % 256) as u8,
-        (n / 1099511627776 % 256) as u8,
-        (n / 4294967296 % 256) as u8,
-        (n / 16777216 % 256) as u8,
-        (n / 65536 % 256) as u8,
-        (n / 256 % 256) as u8,
-        (n % 256) as u8,
+        ((n >> 48) % BYTE_VALUES) as u8,
+        ((n >> 40) % BYTE_VALUES) as u8,
+        ((n >> 32) % BYTE_VALUES) as u8,
+        ((n >> 24) % BYTE_VALUES) as u8,
+        ((n >> 16) % BYTE_VALUES) as u8,
+        ((n >> 8) % BYTE_VALUES) as u8,
+        (n % BYTE_VALUES) as u8,
     ]
 }
 
 // All bytes of a stored identifier.
-fn all_bytes(x: Identifier) -> [u8; 35]
+fn all_bytes(x: Identifier) -> [u8; IDENTIFIER_MOST]
     ensures { λ r. ⌜ r ≡ allBytes x ⌝ }
 {
     let a = seven_bytes(x.first);
@@ -171,16 +183,16 @@ fn four_from(s: &[u8], i: usize) -> u64
     requires { ⌜ i + 3 < length (now s) ⌝ }
     ensures { λ r. ⌜ r ≡ fourFrom (now (s .entry)) i ⌝ }
 {
-    let top = hex_value(s[i]) as u64 * 16 + hex_value(s[i + 1]) as u64;
-    (top * 16 + hex_value(s[i + 2]) as u64) * 16 + hex_value(s[i + 3]) as u64
+    let top = hex_value(s[i]) as u64 * HEX_VALUES + hex_value(s[i + 1]) as u64;
+    (top * HEX_VALUES + hex_value(s[i + 2]) as u64) * HEX_VALUES + hex_value(s[i + 3]) as u64
 }
 
 // Four groups as one number.
 fn groups(a: u64, b: u64, c: u64, d: u64) -> u64
-    requires { ⌜ (a < 2 ^ 16) × (b < 2 ^ 16) × (c < 2 ^ 16) × (d < 2 ^ 16) ⌝ }
+    requires { ⌜ (a < 2 ^ groupBits) × (b < 2 ^ groupBits) × (c < 2 ^ groupBits) × (d < 2 ^ groupBits) ⌝ }
     ensures { λ r. ⌜ r ≡ groups a b c d ⌝ }
 {
-    ((a * 65536 + b) * 65536 + c) * 65536 + d
+    ((a * GROUP_VALUES + b) * GROUP_VALUES + c) * GROUP_VALUES + d
 }
 
 // A UETR in its stored form.

@@ -117,6 +117,11 @@ pub fn identifiers(word: &[u8], text: &[u8]) {
     }
 }
 
+// The hexadecimal digits of each number that a UETR and that an identifier is stored as.
+pub const UETR_WIDE: usize = 16;
+
+const IDENTIFIER_WIDE: usize = 14;
+
 pub fn put_hex(n: u64, width: usize) {
     put(b" ");
     io::print_hex(STDOUT_FILENO, n, width);
@@ -125,8 +130,8 @@ pub fn put_hex(n: u64, width: usize) {
 fn uetr(text: &[u8]) {
     put_test(shape::stored::is_uetr(text));
     let u = shape::stored::uetr_of(text);
-    put_hex(u.high, 16);
-    put_hex(u.low, 16);
+    put_hex(u.high, UETR_WIDE);
+    put_hex(u.low, UETR_WIDE);
 }
 
 fn identifier(text: &[u8]) {
@@ -134,11 +139,11 @@ fn identifier(text: &[u8]) {
 }
 
 pub fn put_stored(i: Identifier) {
-    put_hex(i.first, 14);
-    put_hex(i.second, 14);
-    put_hex(i.third, 14);
-    put_hex(i.fourth, 14);
-    put_hex(i.fifth, 14);
+    put_hex(i.first, IDENTIFIER_WIDE);
+    put_hex(i.second, IDENTIFIER_WIDE);
+    put_hex(i.third, IDENTIFIER_WIDE);
+    put_hex(i.fourth, IDENTIFIER_WIDE);
+    put_hex(i.fifth, IDENTIFIER_WIDE);
 }
 
 // The codes of a check, and the order of a kind.

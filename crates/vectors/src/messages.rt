@@ -1,4 +1,5 @@
 // What is asked of messages: a sheet's refusal, or all that its message holds and each of its fields as a part of the sheet.
+use crate::ask::UETR_WIDE;
 use crate::ask::put;
 use crate::ask::put_account;
 use crate::ask::put_hex;
@@ -55,8 +56,8 @@ fn put_transfer(m: Message) {
     let amount = m.amount;
     let currency = m.currency;
     put_stored(m.reference);
-    put_hex(m.uetr.high, 16);
-    put_hex(m.uetr.low, 16);
+    put_hex(m.uetr.high, UETR_WIDE);
+    put_hex(m.uetr.low, UETR_WIDE);
     put_value(amount);
     put_value(currency);
     put_account(m.debit);
@@ -75,11 +76,14 @@ fn put_parties(m: Message) {
     put_remainder(iban);
 }
 
+// A number above those of all fields.
+const NO_FIELD: usize = 15;
+
 // Every field that a message can have, with its start, and one more that none has.
 fn put_fields(s: &[u8], received: Received) {
     let starts = received.starts;
     let mut number = 1;
-    while number < 15 {
+    while number < NO_FIELD {
         put_number(starts[number] as u64);
         put(b"[");
         put(message::field(s, received, number));
@@ -87,7 +91,7 @@ fn put_fields(s: &[u8], received: Received) {
         number += 1;
     }
     put(b"[");
-    put(message::field(s, received, 15));
+    put(message::field(s, received, NO_FIELD));
     put(b"]");
 }
 

@@ -42,6 +42,9 @@ pub fn part(s: &[u8], from: usize, to: usize) -> &[u8] {
     &s[from..to]
 }
 
+// A number above this one takes no digit more.
+const NUMBER_MOST: u64 = 100_000_000_000_000_000;
+
 // The number that digits write, for numbers that stay below the width.
 pub fn number(s: &[u8]) -> u64 {
     let mut n: u64 = 0;
@@ -51,7 +54,7 @@ pub fn number(s: &[u8]) -> u64 {
         if d < b'0' {
             return n;
         }
-        if 100000000000000000 < n {
+        if NUMBER_MOST < n {
             return n;
         }
         n = n * 10 + (d - b'0') as u64;

@@ -8,7 +8,7 @@ use borrow.Author.Tests.{le-leb, lt-leb}
 use borrow.Author.Needs.{needs}
 use Rattle.shape.specs.Bytes.{every}
 use Rattle.directory.specs.declared.Participant.{Participant}
-use Rattle.directory.specs.Directory.{codeMost}
+use Rattle.directory.specs.Directory.{codeMost, recordsMost}
 use Rattle.directory.specs.Gathering.{recordsIn}
 use Rattle.directory.proofs.Turns.{goes-on, every-hit, every-miss, every-end}
 use Rattle.directory.proofs.all_codes.Statement.{statement}
@@ -16,12 +16,12 @@ use Rattle.directory.proofs.all_codes.Tie as tie
 
 abbrev Inv-loop : tie.InvT-loop
 Inv-loop g records i₀ i =
-    (i ≤ 16)
+    (i ≤ recordsMost)
     × (every (λ (p : Participant). leb (p .code) codeMost) (recordsIn g)
     ≡ every (λ (p : Participant). leb (p .code) codeMost) (drop i (recordsIn g)))
 
 abbrev μ-loop : tie.MeasureT-loop
-μ-loop g records i₀ i = 16 - i
+μ-loop g records i₀ i = recordsMost - i
 
 loop-holds : tie.Need-loop-holds Inv-loop μ-loop
 loop-holds c = (omega arith, refl)

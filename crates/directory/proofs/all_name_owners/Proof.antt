@@ -7,7 +7,7 @@ use borrow.Author.Needs.{needs}
 use borrow.Author.Tests.{not-true, not-false}
 use Rattle.shape.specs.Bytes.{every}
 use Rattle.directory.specs.declared.Participant.{Participant}
-use Rattle.directory.specs.Directory.{names}
+use Rattle.directory.specs.Directory.{recordsMost, names}
 use Rattle.directory.specs.Gathering.{recordsIn}
 use Rattle.directory.proofs.Turns.{goes-on, every-hit, every-miss, every-end}
 use Rattle.directory.proofs.all_name_owners.Statement.{statement}
@@ -15,12 +15,12 @@ use Rattle.directory.proofs.all_name_owners.Tie as tie
 
 abbrev Inv-loop : tie.InvT-loop
 Inv-loop g records i₀ i =
-    (i ≤ 16)
+    (i ≤ recordsMost)
     × (every (λ (p : Participant). names (recordsIn g) (p .kind)) (recordsIn g)
     ≡ every (λ (p : Participant). names (recordsIn g) (p .kind)) (drop i (recordsIn g)))
 
 abbrev μ-loop : tie.MeasureT-loop
-μ-loop g records i₀ i = 16 - i
+μ-loop g records i₀ i = recordsMost - i
 
 loop-holds : tie.Need-loop-holds Inv-loop μ-loop
 loop-holds c = (omega arith, refl)

@@ -5,17 +5,17 @@ use native.Mathlib.Omega.{arith}
 use lib.ListN.{length-map, drop}
 use borrow.Author.Tests.{lt-ltb, le-ltb}
 use borrow.Author.Needs.{needs}
-use Rattle.directory.specs.Directory.{ascending}
+use Rattle.directory.specs.Directory.{recordsMost, ascending}
 use Rattle.directory.specs.Gathering.{recordsIn}
 use Rattle.directory.proofs.Turns.{goes-on, ascend-hit, ascend-miss, ascend-end}
 use Rattle.directory.proofs.ascends.Statement.{statement}
 use Rattle.directory.proofs.ascends.Tie as tie
 
 abbrev Inv-loop : tie.InvT-loop
-Inv-loop g records i₀ i = (1 ≤ i) × (i ≤ 16) × (ascending (recordsIn g) ≡ ascending (drop (i - 1) (recordsIn g)))
+Inv-loop g records i₀ i = (1 ≤ i) × (i ≤ recordsMost) × (ascending (recordsIn g) ≡ ascending (drop (i - 1) (recordsIn g)))
 
 abbrev μ-loop : tie.MeasureT-loop
-μ-loop g records i₀ i = 16 - i
+μ-loop g records i₀ i = recordsMost - i
 
 loop-holds : tie.Need-loop-holds Inv-loop μ-loop
 loop-holds c = (omega arith, omega arith, refl)

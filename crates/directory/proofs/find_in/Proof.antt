@@ -5,17 +5,17 @@ use native.Mathlib.Omega.{arith}
 use lib.ListN.{length-map, drop}
 use borrow.Author.Tests.{eq-eqb, ne-eqb}
 use borrow.Author.Needs.{needs}
-use Rattle.directory.specs.Directory.{found, foundFrom}
+use Rattle.directory.specs.Directory.{recordsMost, found, foundFrom}
 use Rattle.directory.specs.Gathering.{recordsIn}
 use Rattle.directory.proofs.Turns.{goes-on, found-hit, found-miss, found-end}
 use Rattle.directory.proofs.find_in.Statement.{statement}
 use Rattle.directory.proofs.find_in.Tie as tie
 
 abbrev Inv-loop : tie.InvT-loop
-Inv-loop g code records i₀ i = (i ≤ 16) × (found (recordsIn g) code ≡ foundFrom i (drop i (recordsIn g)) code)
+Inv-loop g code records i₀ i = (i ≤ recordsMost) × (found (recordsIn g) code ≡ foundFrom i (drop i (recordsIn g)) code)
 
 abbrev μ-loop : tie.MeasureT-loop
-μ-loop g code records i₀ i = 16 - i
+μ-loop g code records i₀ i = recordsMost - i
 
 loop-holds : tie.Need-loop-holds Inv-loop μ-loop
 unfolding found

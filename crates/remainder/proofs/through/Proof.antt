@@ -4,13 +4,14 @@ use Prim.Native.Nat.{_≤_, _<_, _-_, _%_}
 use native.Mathlib.Omega.{arith}
 use native.Mathlib.Nat.{mod-eq-of-lt}
 use lib.ListN.{length, drop}
-use Rattle.remainder.specs.Remainder.{writtenAll}
+use Rattle.remainder.specs.Remainder.{modulus, writtenAll}
 use Rattle.remainder.proofs.Carry.{carry-turn, carry-end}
 use Rattle.remainder.proofs.through.Statement.{statement}
 use Rattle.remainder.proofs.through.Tie as tie
 
 abbrev Inv-loop : tie.InvT-loop
-Inv-loop s at₀ i₀ at i = (i ≤ length s) × (at .remainder < 97) × (writtenAll (at₀ .remainder) s % 97 ≡ writtenAll (at .remainder) (drop i s) % 97)
+Inv-loop s at₀ i₀ at i = (i ≤ length s) × (at .remainder < modulus)
+    × (writtenAll (at₀ .remainder) s % modulus ≡ writtenAll (at .remainder) (drop i s) % modulus)
 
 abbrev μ-loop : tie.MeasureT-loop
 μ-loop s at₀ i₀ at i = length s - i

@@ -3,6 +3,7 @@ use mathlib.Core.Path.{_≡_, refl, sym, _∙_}
 use Prim.Native.Nat.{_≤_, _-_}
 use native.Mathlib.Omega.{arith}
 use lib.ListN.{length, drop, length-set}
+use Rattle.script.specs.Words.{valuesMost}
 use Rattle.script.specs.Lines.{takeFrom, taken}
 use Rattle.script.proofs.Runs.{word-behind, word-within}
 use Rattle.script.proofs.Takes.{take-on, take-stop, take-end, next-within}
@@ -11,7 +12,8 @@ use Rattle.script.proofs.values.take_values.Statement.{statement}
 use Rattle.script.proofs.values.take_values.Tie as tie
 
 abbrev Inv-loop : tie.InvT-loop
-Inv-loop wants s from values₀ count₀ rest₀ values count rest = (count ≤ length wants) × (rest ≤ length s) × (length values ≡ 35) × (taken wants s from ≡ takeFrom (drop count wants) s count values rest)
+Inv-loop wants s from values₀ count₀ rest₀ values count rest = (count ≤ length wants) × (rest ≤ length s)
+    × (length values ≡ valuesMost) × (taken wants s from ≡ takeFrom (drop count wants) s count values rest)
 
 abbrev μ-loop : tie.MeasureT-loop
 μ-loop wants s from values₀ count₀ rest₀ values count rest = length wants - count

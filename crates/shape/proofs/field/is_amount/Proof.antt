@@ -6,18 +6,20 @@ use Prim.Native.Nat.{_-_}
 use Rattle.shape.proofs.Parts.{rest}
 use borrow.Author.Tests.{le-leb, lt-leb}
 use Rattle.shape.specs.Patterns.{within}
-use Rattle.shape.specs.Fields.{isAmount}
+use Rattle.shape.specs.Fields.{amountBytesLeast, amountBytesMost, isAmount}
 use borrow.Author.Needs.{needs}
 use Rattle.shape.proofs.field.is_amount.Statement.{statement}
 use Rattle.shape.proofs.field.is_amount.Tie as tie
 
 returns : tie.Need-returns
 unfolding isAmount
-returns c = rw (lt-leb 4 (length (c .before .before .args .s .now)) (c .if1 .taken))
+returns c = rw (lt-leb amountBytesLeast (length (c .before .before .args .s .now)) (c .if1 .taken))
 
 returns-2 : tie.Need-returns-2
 unfolding isAmount
-returns-2 c = rw (le-leb 4 (length (c .before .before .before .args .s .now)) (c .before .if1 .left), lt-leb (length (c .before .before .before .args .s .now)) 14 (c .if2 .taken))
+returns-2 c =
+    let n = length (c .before .before .before .args .s .now) in
+    rw (le-leb amountBytesLeast n (c .before .if1 .left), lt-leb n amountBytesMost (c .if2 .taken))
 
 sub-units : tie.Need-sub-units
 sub-units c = search needs
@@ -54,7 +56,17 @@ kopecks-requires c κs = search needs
 
 returns-3 : tie.Need-returns-3
 unfolding isAmount within
-returns-3 c = rw (le-leb 4 (length (c .before .before .before .before .before .before .before .before .before .before .args .s .now)) (c .before .before .before .before .before .before .before .before .if1 .left), le-leb (length (c .before .before .before .before .before .before .before .before .before .before .args .s .now)) 14 (c .before .before .before .before .before .before .before .if2 .left), c .before .before .before .before .before .all-within .ensures, c .before .all-within2 .ensures, c .kopecks .ensures, rest (length (c .before .before .before .before .before .before .before .before .before .before .args .s .now) - 2) (c .before .before .before .before .before .before .before .before .before .before .args .s .now))
+returns-3 c =
+    let tests = c .before .before .before .before .before .before .before in
+    let s = tests .before .before .before .args .s .now in
+    rw (
+      le-leb amountBytesLeast (length s) (tests .before .if1 .left),
+      le-leb (length s) amountBytesMost (tests .if2 .left),
+      c .before .before .before .before .before .all-within .ensures,
+      c .before .all-within2 .ensures,
+      c .kopecks .ensures,
+      rest (length s - 2) s,
+    )
 
 pub is-amount-spec : {M : Type 1} → statement M
 is-amount-spec =

@@ -1,4 +1,4 @@
--- A digit by its own value; of the others those below 87 have a difference of 0.
+-- A digit by its own value; of the others those below `letterBase` have a difference of 0.
 use mathlib.Core.Path.{_≡_, sym, _∙_}
 use native.Mathlib.Omega.{arith}
 use Rattle.shape.specs.Numbers.{hexValue}

@@ -14,11 +14,20 @@ seven-from-requires c κs = search needs
 seven-from-requires-2 : tie.Need-seven-from-requires-2
 seven-from-requires-2 c κs = search needs
 
+mul-seven-from : tie.Need-mul-seven-from
+mul-seven-from c = search needs
+
 seven-from-requires-3 : tie.Need-seven-from-requires-3
 seven-from-requires-3 c κs = search needs
 
+mul-seven-from-2 : tie.Need-mul-seven-from-2
+mul-seven-from-2 c = search needs
+
 seven-from-requires-4 : tie.Need-seven-from-requires-4
 seven-from-requires-4 c κs = search needs
+
+mul-seven-from-3 : tie.Need-mul-seven-from-3
+mul-seven-from-3 c = search needs
 
 seven-from-requires-5 : tie.Need-seven-from-requires-5
 seven-from-requires-5 c κs = search needs
@@ -38,8 +47,11 @@ identifier-of-spec =
     is-identifier-requires
     seven-from-requires
     seven-from-requires-2
+    mul-seven-from
     seven-from-requires-3
+    mul-seven-from-2
     seven-from-requires-4
+    mul-seven-from-3
     seven-from-requires-5
     returns
     returns-2)

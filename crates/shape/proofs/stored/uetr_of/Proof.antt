@@ -6,7 +6,7 @@ use Prim.Native.Nat.{ℕ, _<_, _^_}
 use native.Mathlib.Omega.{arith}
 use lib.ListN.{length}
 use Rattle.shape.specs.Patterns.{uetrPattern}
-use Rattle.shape.specs.Stored.{isUetr, uetrOf}
+use Rattle.shape.specs.Stored.{groupBits, isUetr, uetrOf}
 use Rattle.shape.proofs.Loops.{fits-length}
 use Rattle.shape.proofs.Hex.{group-small}
 use borrow.Author.Needs.{needs}
@@ -17,8 +17,8 @@ long : (s : List ℕ) → isUetr s ≡ true → length s ≡ 36
 unfolding isUetr uetrPattern
 long s e = fits-length uetrPattern s e
 
-small : {n m : ℕ} → n ≡ m → m < 2 ^ 16 → n < 2 ^ 16
-small {n} {m} e h = subst (λ (k : ℕ). k < 2 ^ 16) (sym e) h
+small : {n m : ℕ} → n ≡ m → m < 2 ^ groupBits → n < 2 ^ groupBits
+small {n} {m} e h = subst (λ (k : ℕ). k < 2 ^ groupBits) (sym e) h
 
 is-uetr-requires : tie.Need-is-uetr-requires
 is-uetr-requires c κs = search needs

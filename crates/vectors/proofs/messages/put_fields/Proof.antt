@@ -1,14 +1,18 @@
--- The loop counts to fifteen.
-use Prim.Native.Nat.{_≤_, _-_}
+-- The loop counts through the fields' numbers.
+use Prim.Native.Nat.{ℕ, _≤_, _-_}
 use borrow.Author.Needs.{needs}
 use Rattle.vectors.proofs.messages.put_fields.Statement.{statement}
 use Rattle.vectors.proofs.messages.put_fields.Tie as tie
 
+-- a number above those of all fields
+abbrev noField : ℕ
+noField = 15
+
 abbrev Inv-loop : tie.InvT-loop
-Inv-loop s received starts number₀ t5 t6 t7 t8 number = number ≤ 15
+Inv-loop s received starts number₀ t5 t6 t7 t8 number = number ≤ noField
 
 abbrev μ-loop : tie.MeasureT-loop
-μ-loop s received starts number₀ t5 t6 t7 t8 number = 15 - number
+μ-loop s received starts number₀ t5 t6 t7 t8 number = noField - number
 
 loop-holds : tie.Need-loop-holds Inv-loop μ-loop
 loop-holds c = search needs
