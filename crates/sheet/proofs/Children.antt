@@ -133,3 +133,64 @@ closing-places s at from to w q p e =
   where
     none-yet : State
     none-yet = stateOf begun [] 0 [] []
+
+-- a child of an element was read. The element is read from `at` on, where its name begins, which ends at `to`
+pub record Turn (s : List ℕ) (at left count : ℕ) (starts depths : List ℕ) (to : ℕ) (came : Came) (starts′ depths′ : List ℕ) : Type 0 where
+  pub i : ℕ
+  pub seen : ℕ
+  pub startsBefore : List ℕ
+  pub depthsBefore : List ℕ
+  pub behind : at < i
+  pub more : count < seen
+  pub deep : 1 < left
+  pub so-far : Reaches s left (whence s at count starts depths) (λ names. stateOf begun (partOf s at to ∷ names) seen startsBefore depthsBefore) i
+  pub child : ElementRead s i (left - 1) seen startsBefore depthsBefore came starts′ depths′
+
+-- the ways out of the element with a child or after one
+module _ {s : List ℕ} {at left count : ℕ} {starts depths : List ℕ} {to : ℕ} {came : Came} {starts′ depths′ : List ℕ}
+    (turn : Turn s at left count starts depths to came starts′ depths′) where
+  abbrev Ends : Came → Type 0
+  Ends r = ElementRead s at left count starts depths r starts′ depths′
+
+  refused-at : (p : ℕ) → Refused left (whence s at count starts depths) p → (r : Came) → r ≡ stoppedAt p → Ends r
+  refused-at p f r e =
+      subst Ends (sym e) (ends-refused s at left count starts depths starts′ depths′ (turn .child .long-starts) (turn .child .long-depths) p f)
+
+  -- the child is refused
+  pub in-child : came .whole ≡ false → Ends came
+  in-child e =
+      ends-with-child s at left count starts depths starts′ depths′ (turn .child .long-starts) (turn .child .long-depths) came e
+      (child-refused s left (partOf s at to) (whence s at count starts depths) (turn .i) (turn .seen) (turn .startsBefore) (turn .depthsBefore)
+      (turn .so-far) (turn .deep) came starts′ depths′ (turn .child) e)
+
+  module _ (whole : came .whole ≡ true) where
+    -- no `<` stands after the child
+    pub after-child : (getD s (came .place) 0 ≡ 60 → ⊥) → (r : Came) → r ≡ stoppedAt (came .place) → Ends r
+    after-child e =
+        refused-at (came .place)
+        (no-more s left (partOf s at to) (whence s at count starts depths) (turn .i) (turn .seen) (turn .startsBefore) (turn .depthsBefore)
+        (turn .so-far) (turn .deep) came starts′ depths′ (turn .child) whole e)
+
+    module _ (next : getD s (came .place) 0 ≡ 60) where
+      -- there are too many elements
+      pub in-sibling : (getD s (came .place + 1) 0 ≡ 47 → ⊥) → came .count ≡ elementMost → (r : Came) → r ≡ stoppedAt (came .place + 1) → Ends r
+      in-sibling e f =
+          refused-at (came .place + 1)
+          (too-many s left (partOf s at to) (whence s at count starts depths) (turn .i) (turn .seen) (turn .startsBefore) (turn .depthsBefore)
+          (turn .so-far) (turn .deep) came starts′ depths′ (turn .child) whole next e f)
+
+      -- the closing tag, read or refused
+      pub in-closing : getD s (came .place + 1) 0 ≡ 47 → (w : Went) → ClosingRead s (came .place + 1 + 1) at to w
+          → (r : Came) → r ≡ cameOf w (came .count) → Ends r
+      in-closing slash w q r e =
+          let p = turn .child .places whole in
+          let after = turn .behind in
+          let more = turn .more in
+          let near = closing-places s (came .place + 1 + 1) at to w q in
+          subst Ends (sym e)
+          (ends-closed s at left count starts depths starts′ depths′ (turn .child .long-starts) (turn .child .long-depths) w (came .count)
+          (λ k f. let n = near k f in (omega arith, n .1)) (omega arith) (p .3)
+          (λ k f. closed s left (partOf s at to) (whence s at count starts depths) (turn .i) (turn .seen) (turn .startsBefore) (turn .depthsBefore)
+          (turn .so-far) (turn .deep) came starts′ depths′ (turn .child) whole next at to refl slash k (subst (ClosingRead s (came .place + 1 + 1) at to) f q))
+          (λ k f. not-closed s left (partOf s at to) (whence s at count starts depths) (turn .i) (turn .seen) (turn .startsBefore) (turn .depthsBefore)
+          (turn .so-far) (turn .deep) came starts′ depths′ (turn .child) whole next at to refl slash k (subst (ClosingRead s (came .place + 1 + 1) at to) f q)))

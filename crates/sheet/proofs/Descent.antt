@@ -88,13 +88,15 @@ sibling-step st i b e h = go (isLetter b)
 
 -- the element's tag was not read
 pub untagged : (s : List ℕ) (at left count : ℕ) (starts depths : List ℕ) (r : Tag) → TagRead s at r → r .found ≡ false
-    → length starts ≡ elementMost → length depths ≡ elementMost → ElementRead s at left count starts depths (stoppedAt (r .place)) starts depths
-untagged s at left count starts depths r tag e ls ld = record {
-  comes = λ names h. subst (TagComes s (stateOf begun names count starts depths) at r) e (tag .comes (stateOf begun names count starts depths));
-  places = λ f. absurd (false≢true f);
-  long-starts = ls;
-  long-depths = ld;
-}
+    → length starts ≡ elementMost → length depths ≡ elementMost → (came : Came) → came ≡ stoppedAt (r .place)
+    → ElementRead s at left count starts depths came starts depths
+untagged s at left count starts depths r tag e ls ld came f =
+    subst (λ (x : Came). ElementRead s at left count starts depths x starts depths) (sym f) (record {
+      comes = λ names h. subst (TagComes s (stateOf begun names count starts depths) at r) e (tag .comes (stateOf begun names count starts depths));
+      places = λ w. absurd (false≢true w);
+      long-starts = ls;
+      long-depths = ld;
+    })
 
 -- the element's tag was read
 module _ (s : List ℕ) (at left count : ℕ) (starts depths : List ℕ) (r : Tag) (tag : TagRead s at r) (found : r .found ≡ true) (few : count < elementMost)

@@ -1,20 +1,19 @@
 -- The tag, then a text or children one after the other, then the closing tag; each way out is one lemma of `Descent` or `Children`.
-use mathlib.Core.Path.{_≡_, refl, sym, subst, _∙_}
+use mathlib.Core.Path.{_≡_, refl, sym, ap, _∙_}
 use mathlib.Core.List.{List, _∷_}
 use Prim.Native.Nat.{_+_, _-_, _≤_}
 use native.Mathlib.Omega.{arith}
 use lib.Arith.{lt-of-le-ne}
 use lib.ListN.{length, set, length-set}
 use borrow.Author.Tests.{not-true, not-false}
+use Rattle.shape.specs.Bytes.{isText}
 use Rattle.sheet.specs.Grammar.{depthMost, elementMost}
 use Rattle.sheet.specs.Machine.{begun}
-use Rattle.sheet.specs.Parts.{runAt, partOf, ClosingRead}
-use Rattle.sheet.specs.Element.{stateOf, ElementRead}
-use Rattle.sheet.specs.declared.element.Came.{Came}
+use Rattle.sheet.specs.Parts.{runAt, partOf}
+use Rattle.sheet.specs.Element.{mayHold, stateOf}
 use Rattle.sheet.proofs.Ends.{inside as in-sheet, text-inside}
 use Rattle.sheet.proofs.Descent.{untagged, with-text, with-nothing, first-child, may-hold-parts}
-use Rattle.sheet.proofs.Children.{Reaches, whence, within, child-refused, no-more, too-many, sibling, closed, not-closed}
-use Rattle.sheet.proofs.Children.{ends-refused, ends-with-child, ends-closed, closing-places}
+use Rattle.sheet.proofs.Children.{Reaches, within, sibling, Turn, in-child, after-child, in-sibling, in-closing}
 use Prim.Native.Nat.{ℕ, _<_}
 use borrow.Fn.Kinds.{In}
 use borrow.Fn.PlainCycle.{Measures, is, falls, and}
@@ -42,12 +41,32 @@ abbrev element-below : ℕ → In 3 element-kinds.ps
 element-below t = and 3 element-kinds.ps (falls 3 element-kinds.ps _<_ μ-element t) element.Pre
 
 abbrev cs : ℕ → element-lts.Claims
-cs t = (opening-tag-reads.Asked, opening-tag-reads.Learnt, stopped-reads.Asked, stopped-reads.Learnt, peek-reads.Asked, peek-reads.Learnt, is-text-reads.Asked, is-text-reads.Learnt, leaf-reads.Asked, leaf-reads.Learnt, counted-reads.Asked, counted-reads.Learnt, may-hold-reads.Asked, may-hold-reads.Learnt, element-below t, element.Post, closing-reads.Asked, closing-reads.Learnt)
+cs t = (
+  opening-tag-reads.Asked,
+  opening-tag-reads.Learnt,
+  stopped-reads.Asked,
+  stopped-reads.Learnt,
+  peek-reads.Asked,
+  peek-reads.Learnt,
+  is-text-reads.Asked,
+  is-text-reads.Learnt,
+  leaf-reads.Asked,
+  leaf-reads.Learnt,
+  counted-reads.Asked,
+  counted-reads.Learnt,
+  may-hold-reads.Asked,
+  may-hold-reads.Learnt,
+  element-below t,
+  element.Post,
+  closing-reads.Asked,
+  closing-reads.Learnt,
+)
 
 abbrev element-Inv-loop : element-lts.InvT-loop
 element-Inv-loop s at left count starts₀ depths₀ inside to seen₀ b i₀ starts depths seen i = (at < i) × (i ≤ length s) × (count < seen)
     × (seen < elementMost) × (length starts ≡ elementMost) × (length depths ≡ elementMost)
-    × Reaches s left (λ names. runAt s (stateOf begun (partOf s at to ∷ names) seen₀ starts₀ depths₀) i₀) (λ names. stateOf begun (partOf s at to ∷ names) seen starts depths) i
+    × Reaches s left (λ names. runAt s (stateOf begun (partOf s at to ∷ names) seen₀ starts₀ depths₀) i₀)
+    (λ names. stateOf begun (partOf s at to ∷ names) seen starts depths) i
 
 abbrev element-μ-loop : element-lts.MeasureT-loop
 element-μ-loop s at left count starts₀ depths₀ inside to seen₀ b i₀ starts depths seen i = length s - i
@@ -59,7 +78,12 @@ element-stopped-requires : (t : ℕ) → element-lts.Need-stopped-requires (cs t
 element-stopped-requires t c κs = tt
 
 element-returns : (t : ℕ) → element-lts.Need-returns (cs t) (element-at t) element.Post element-Inv-loop element-μ-loop
-element-returns t c = subst (λ (r : Came). ElementRead (c .before .before .before .before .before .args .s .now) (c .before .before .before .before .before .args .at) (c .before .before .before .before .before .args .left) (c .before .before .before .before .before .args .count) (c .before .before .before .before .before .args .starts .now) (c .before .before .before .before .before .args .depths .now) r (c .before .before .before .before .before .args .starts .now) (c .before .before .before .before .before .args .depths .now)) (sym (c .stopped .ensures)) (untagged (c .before .before .before .before .before .args .s .now) (c .before .before .before .before .before .args .at) (c .before .before .before .before .before .args .left) (c .before .before .before .before .before .args .count) (c .before .before .before .before .before .args .starts .now) (c .before .before .before .before .before .args .depths .now) (c .before .before .before .opening-tag .result) (c .before .before .before .opening-tag .ensures) (not-true _ (c .before .if1 .taken)) (c .before .before .before .before .before .pre .1 .6) (c .before .before .before .before .before .pre .1 .7))
+element-returns t c =
+    let tag = c .before .before .before in
+    let start = tag .before .before in
+    let args = start .args in
+    untagged (args .s .now) (args .at) (args .left) (args .count) (args .starts .now) (args .depths .now)
+    (tag .opening-tag .result) (tag .opening-tag .ensures) (not-true _ (c .before .if1 .taken)) (start .pre .1 .6) (start .pre .1 .7) _ (c .stopped .ensures)
 
 element-sub-starts : (t : ℕ) → element-lts.Need-sub-starts (cs t) (element-at t) element.Post element-Inv-loop element-μ-loop
 element-sub-starts t c = omega arith
@@ -92,7 +116,12 @@ element-is-text-requires : (t : ℕ) → element-lts.Need-is-text-requires (cs t
 element-is-text-requires t c κs = tt
 
 element-leaf-requires : (t : ℕ) → element-lts.Need-leaf-requires (cs t) (element-at t) element.Post element-Inv-loop element-μ-loop
-element-leaf-requires t c κs = let p = (c .before .before .before .before .before .opening-tag .ensures) .places (not-false _ (c .before .before .before .if1 .left)) in (text-inside (c .before .before .before .before .before .before .before .args .s .now) ((c .before .before .before .before .before .opening-tag .result) .place) (rw (c .before .before .peek .ensures) at (sym (c .before .is-text .ensures) ∙ c .if2 .taken)), omega arith, omega arith, c .before .before .before .before .before .before .before .pre .1 .2, (rw (c .before .before .peek .ensures) at (sym (c .before .is-text .ensures) ∙ c .if2 .taken)))
+element-leaf-requires t c κs =
+    let tag = c .before .before .before .before .before in
+    let start = tag .before .before in
+    let p = tag .opening-tag .ensures .places (not-false _ (c .before .before .before .if1 .left)) in
+    let text = rw (c .before .before .peek .ensures) at (sym (c .before .is-text .ensures) ∙ c .if2 .taken) in
+    (text-inside (start .args .s .now) (tag .opening-tag .result .place) text, omega arith, omega arith, start .pre .1 .2, text)
 
 element-counted-requires : (t : ℕ) → element-lts.Need-counted-requires (cs t) (element-at t) element.Post element-Inv-loop element-μ-loop
 element-counted-requires t c κs = tt
@@ -125,17 +154,79 @@ element-returns-3 t c =
     (rw (seen .before .before .peek .ensures) at (sym (c .before .before .may-hold .ensures) ∙ not-true _ (c .before .if3 .taken)))
     _ (c .stopped2 .ensures)
 
+-- the element's beginning, its tag, where its first child may begin, and after a child
+abbrev Start : ℕ → Type 0
+Start t = element-lts.Start (cs t) (element-at t) element.Post element-Inv-loop element-μ-loop
+
+abbrev Tagged : ℕ → Type 0
+Tagged t = element-lts.After-opening-tag (cs t) (element-at t) element.Post element-Inv-loop element-μ-loop
+
+abbrev Inside : ℕ → Type 0
+Inside t = element-lts.Else3 (cs t) (element-at t) element.Post element-Inv-loop element-μ-loop
+
+abbrev Child : ℕ → Type 0
+Child t = element-lts.After-element (cs t) (element-at t) element.Post element-Inv-loop element-μ-loop
+
+abbrev tagOf : (t : ℕ) → Inside t → Tagged t
+tagOf t c = c .before .before .before .before .before .before .before
+
+abbrev startOf : (t : ℕ) → Inside t → Start t
+startOf t c = c .before .before .before .before .before .before .before .before .before
+
+abbrev insideOf : (t : ℕ) → Child t → Inside t
+insideOf t c = c .before .before .before .before
+
+-- a `<` stands there, a level is left for the child, and a place in the lists
+held : (t : ℕ) (c : Inside t)
+    → (c .before .before .before .before .peek .result ≡ 60) × (1 < startOf t c .args .left) × (startOf t c .args .count + 1 < elementMost)
+held t c =
+    let args = startOf t c .args in
+    may-hold-parts (c .before .before .before .before .peek .result) (tagOf t c .opening-tag .result .ccy) (args .left) (args .count + 1)
+    (sym (c .before .may-hold .ensures) ∙ not-false _ (c .if3 .left))
+
+-- from the element's beginning to the child that was read
+turned : (t : ℕ) (c : Child t) → let i = insideOf t c in let args = startOf t i .args in
+    Turn (args .s .now) (args .at) (args .left) (args .count) (args .starts .now) (args .depths .now) (tagOf t i .opening-tag .result .to)
+    (c .element .result) (c .element .last .1 .1 .1 .1 .0) (c .element .last .1 .1 .1 .1 .1 .0)
+turned t c =
+    let loop = c .before .before .before .loop in
+    let inside = insideOf t c in
+    let tag = tagOf t inside in
+    let start = startOf t inside in
+    let args = start .args in
+    let peeked = sym (inside .before .before .before .before .peek .ensures) in
+    record {
+      i = loop .i;
+      seen = loop .seen;
+      startsBefore = loop .starts;
+      depthsBefore = loop .depths;
+      behind = loop .inv .0;
+      more = loop .inv .2;
+      deep = held t inside .1;
+      so-far = λ names h.
+          first-child (args .s .now) (args .at) (args .left) (args .count) (args .starts .now) (args .depths .now)
+          (tag .opening-tag .result) (tag .opening-tag .ensures) (not-false _ (inside .before .before .before .before .before .if1 .left))
+          (start .pre .1 .5) (start .pre .1 .6) (start .pre .1 .7)
+          (ap isText peeked ∙ sym (inside .before .before .before .is-text .ensures) ∙ inside .before .before .if2 .left)
+          (ap (λ (b : ℕ). mayHold b (tag .opening-tag .result .ccy) (args .left) (args .count + 1)) peeked
+          ∙ sym (inside .before .may-hold .ensures) ∙ not-false _ (inside .if3 .left))
+          (peeked ∙ held t inside .0) names h
+          ∙ loop .inv .6 names h;
+      child = c .element .ensures;
+    }
+
 element-add-i : (t : ℕ) → element-lts.Need-add-i (cs t) (element-at t) element.Post element-Inv-loop element-μ-loop
-element-add-i t c = let p = (c .before .before .before .before .before .before .before .opening-tag .ensures) .places (not-false _ (c .before .before .before .before .before .if1 .left)) in omega arith
+element-add-i t c =
+    let p = tagOf t c .opening-tag .ensures .places (not-false _ (c .before .before .before .before .before .if1 .left)) in
+    omega arith
 
 element-loop-holds : (t : ℕ) → element-lts.Need-loop-holds (cs t) (element-at t) element.Post element-Inv-loop element-μ-loop
 element-loop-holds t c =
-    let tag = c .before .before .before .before .before .before .before in
-    let start = tag .before .before in
+    let tag = tagOf t c in
+    let start = startOf t c in
     let args = start .args in
     let p = tag .opening-tag .ensures .places (not-false _ (c .before .before .before .before .before .if1 .left)) in
-    let child = sym (c .before .may-hold .ensures) ∙ not-false _ (c .if3 .left) in
-    let q = may-hold-parts (c .before .before .before .before .peek .result) (tag .opening-tag .result .ccy) (args .left) (args .count + 1) child in
+    let q = held t c in
     let i = in-sheet (args .s .now) (tag .opening-tag .result .place) 59 (sym (c .before .before .before .before .peek .ensures) ∙ q .0) in (
       omega arith,
       omega arith,
@@ -150,10 +241,14 @@ element-sub-element : (t : ℕ) → element-lts.Need-sub-element (cs t) (element
 element-sub-element t c = omega arith
 
 element-element-requires : (t : ℕ) → element-lts.Need-element-requires (cs t) (element-at t) element.Post element-Inv-loop element-μ-loop
-element-element-requires t c κs = let q = (may-hold-parts (c .before .before .before .before .before .before .before .peek .result) ((c .before .before .before .before .before .before .before .before .before .before .opening-tag .result) .ccy) (c .before .before .before .before .before .before .before .before .before .before .before .before .args .left) ((c .before .before .before .before .before .before .before .before .before .before .before .before .args .count) + 1) (sym (c .before .before .before .before .may-hold .ensures) ∙ not-false _ (c .before .before .before .if3 .left))) in (omega arith, (omega arith, c .before .before .loop .inv .1, c .before .before .before .before .before .before .before .before .before .before .before .before .pre .1 .2, omega arith, omega arith, c .before .before .loop .inv .3, c .before .before .loop .inv .4, c .before .before .loop .inv .5))
+element-element-requires t c κs =
+    let loop = c .before .before .loop in
+    let inside = c .before .before .before in
+    let q = held t inside in
+    (omega arith, (omega arith, loop .inv .1, startOf t inside .pre .1 .2, omega arith, omega arith, loop .inv .3, loop .inv .4, loop .inv .5))
 
 element-returns-4 : (t : ℕ) → element-lts.Need-returns-4 (cs t) (element-at t) element.Post element-Inv-loop element-μ-loop
-element-returns-4 t c = ends-with-child (c .before .before .before .before .before .before .before .before .before .before .before .before .before .before .before .args .s .now) (c .before .before .before .before .before .before .before .before .before .before .before .before .before .before .before .args .at) (c .before .before .before .before .before .before .before .before .before .before .before .before .before .before .before .args .left) (c .before .before .before .before .before .before .before .before .before .before .before .before .before .before .before .args .count) (c .before .before .before .before .before .before .before .before .before .before .before .before .before .before .before .args .starts .now) (c .before .before .before .before .before .before .before .before .before .before .before .before .before .before .before .args .depths .now) (c .before .before .element .last .1 .1 .1 .1 .0) (c .before .before .element .last .1 .1 .1 .1 .1 .0) (c .before .before .element .ensures .long-starts) (c .before .before .element .ensures .long-depths) (c .before .before .element .result) (not-true _ (c .if4 .taken)) (child-refused (c .before .before .before .before .before .before .before .before .before .before .before .before .before .before .before .args .s .now) (c .before .before .before .before .before .before .before .before .before .before .before .before .before .before .before .args .left) (partOf (c .before .before .before .before .before .before .before .before .before .before .before .before .before .before .before .args .s .now) (c .before .before .before .before .before .before .before .before .before .before .before .before .before .before .before .args .at) ((c .before .before .before .before .before .before .before .before .before .before .before .before .before .opening-tag .result) .to)) (whence (c .before .before .before .before .before .before .before .before .before .before .before .before .before .before .before .args .s .now) (c .before .before .before .before .before .before .before .before .before .before .before .before .before .before .before .args .at) (c .before .before .before .before .before .before .before .before .before .before .before .before .before .before .before .args .count) (c .before .before .before .before .before .before .before .before .before .before .before .before .before .before .before .args .starts .now) (c .before .before .before .before .before .before .before .before .before .before .before .before .before .before .before .args .depths .now)) (c .before .before .before .before .before .loop .i) (c .before .before .before .before .before .loop .seen) (c .before .before .before .before .before .loop .starts) (c .before .before .before .before .before .loop .depths) (λ names h. first-child (c .before .before .before .before .before .before .before .before .before .before .before .before .before .before .before .args .s .now) (c .before .before .before .before .before .before .before .before .before .before .before .before .before .before .before .args .at) (c .before .before .before .before .before .before .before .before .before .before .before .before .before .before .before .args .left) (c .before .before .before .before .before .before .before .before .before .before .before .before .before .before .before .args .count) (c .before .before .before .before .before .before .before .before .before .before .before .before .before .before .before .args .starts .now) (c .before .before .before .before .before .before .before .before .before .before .before .before .before .before .before .args .depths .now) (c .before .before .before .before .before .before .before .before .before .before .before .before .before .opening-tag .result) (c .before .before .before .before .before .before .before .before .before .before .before .before .before .opening-tag .ensures) (not-false _ (c .before .before .before .before .before .before .before .before .before .before .before .if1 .left)) (c .before .before .before .before .before .before .before .before .before .before .before .before .before .before .before .pre .1 .5) (c .before .before .before .before .before .before .before .before .before .before .before .before .before .before .before .pre .1 .6) (c .before .before .before .before .before .before .before .before .before .before .before .before .before .before .before .pre .1 .7) (rw (c .before .before .before .before .before .before .before .before .before .before .peek .ensures) at (sym (c .before .before .before .before .before .before .before .before .before .is-text .ensures) ∙ c .before .before .before .before .before .before .before .before .if2 .left)) (rw (c .before .before .before .before .before .before .before .before .before .before .peek .ensures) at (sym (c .before .before .before .before .before .before .before .may-hold .ensures) ∙ not-false _ (c .before .before .before .before .before .before .if3 .left))) (sym (c .before .before .before .before .before .before .before .before .before .before .peek .ensures) ∙ (may-hold-parts (c .before .before .before .before .before .before .before .before .before .before .peek .result) ((c .before .before .before .before .before .before .before .before .before .before .before .before .before .opening-tag .result) .ccy) (c .before .before .before .before .before .before .before .before .before .before .before .before .before .before .before .args .left) ((c .before .before .before .before .before .before .before .before .before .before .before .before .before .before .before .args .count) + 1) (sym (c .before .before .before .before .before .before .before .may-hold .ensures) ∙ not-false _ (c .before .before .before .before .before .before .if3 .left))) .0) names h ∙ c .before .before .before .before .before .loop .inv .6 names h) ((may-hold-parts (c .before .before .before .before .before .before .before .before .before .before .peek .result) ((c .before .before .before .before .before .before .before .before .before .before .before .before .before .opening-tag .result) .ccy) (c .before .before .before .before .before .before .before .before .before .before .before .before .before .before .before .args .left) ((c .before .before .before .before .before .before .before .before .before .before .before .before .before .before .before .args .count) + 1) (sym (c .before .before .before .before .before .before .before .may-hold .ensures) ∙ not-false _ (c .before .before .before .before .before .before .if3 .left))) .1) (c .before .before .element .result) (c .before .before .element .last .1 .1 .1 .1 .0) (c .before .before .element .last .1 .1 .1 .1 .1 .0) (c .before .before .element .ensures) (not-true _ (c .if4 .taken)))
+element-returns-4 t c = in-child (turned t (c .before .before)) (not-true _ (c .if4 .taken))
 
 element-peek-requires-2 : (t : ℕ) → element-lts.Need-peek-requires-2 (cs t) (element-at t) element.Post element-Inv-loop element-μ-loop
 element-peek-requires-2 t c κs = tt
@@ -162,7 +257,9 @@ element-stopped-requires-3 : (t : ℕ) → element-lts.Need-stopped-requires-3 (
 element-stopped-requires-3 t c κs = tt
 
 element-returns-5 : (t : ℕ) → element-lts.Need-returns-5 (cs t) (element-at t) element.Post element-Inv-loop element-μ-loop
-element-returns-5 t c = subst (λ (r : Came). ElementRead (c .before .before .before .before .before .before .before .before .before .before .before .before .before .before .before .before .before .before .args .s .now) (c .before .before .before .before .before .before .before .before .before .before .before .before .before .before .before .before .before .before .args .at) (c .before .before .before .before .before .before .before .before .before .before .before .before .before .before .before .before .before .before .args .left) (c .before .before .before .before .before .before .before .before .before .before .before .before .before .before .before .before .before .before .args .count) (c .before .before .before .before .before .before .before .before .before .before .before .before .before .before .before .before .before .before .args .starts .now) (c .before .before .before .before .before .before .before .before .before .before .before .before .before .before .before .before .before .before .args .depths .now) r (c .before .before .before .before .before .element .last .1 .1 .1 .1 .0) (c .before .before .before .before .before .element .last .1 .1 .1 .1 .1 .0)) (sym (c .stopped3 .ensures)) (ends-refused (c .before .before .before .before .before .before .before .before .before .before .before .before .before .before .before .before .before .before .args .s .now) (c .before .before .before .before .before .before .before .before .before .before .before .before .before .before .before .before .before .before .args .at) (c .before .before .before .before .before .before .before .before .before .before .before .before .before .before .before .before .before .before .args .left) (c .before .before .before .before .before .before .before .before .before .before .before .before .before .before .before .before .before .before .args .count) (c .before .before .before .before .before .before .before .before .before .before .before .before .before .before .before .before .before .before .args .starts .now) (c .before .before .before .before .before .before .before .before .before .before .before .before .before .before .before .before .before .before .args .depths .now) (c .before .before .before .before .before .element .last .1 .1 .1 .1 .0) (c .before .before .before .before .before .element .last .1 .1 .1 .1 .1 .0) (c .before .before .before .before .before .element .ensures .long-starts) (c .before .before .before .before .before .element .ensures .long-depths) ((c .before .before .before .before .before .element .result) .place) (no-more (c .before .before .before .before .before .before .before .before .before .before .before .before .before .before .before .before .before .before .args .s .now) (c .before .before .before .before .before .before .before .before .before .before .before .before .before .before .before .before .before .before .args .left) (partOf (c .before .before .before .before .before .before .before .before .before .before .before .before .before .before .before .before .before .before .args .s .now) (c .before .before .before .before .before .before .before .before .before .before .before .before .before .before .before .before .before .before .args .at) ((c .before .before .before .before .before .before .before .before .before .before .before .before .before .before .before .before .opening-tag .result) .to)) (whence (c .before .before .before .before .before .before .before .before .before .before .before .before .before .before .before .before .before .before .args .s .now) (c .before .before .before .before .before .before .before .before .before .before .before .before .before .before .before .before .before .before .args .at) (c .before .before .before .before .before .before .before .before .before .before .before .before .before .before .before .before .before .before .args .count) (c .before .before .before .before .before .before .before .before .before .before .before .before .before .before .before .before .before .before .args .starts .now) (c .before .before .before .before .before .before .before .before .before .before .before .before .before .before .before .before .before .before .args .depths .now)) (c .before .before .before .before .before .before .before .before .loop .i) (c .before .before .before .before .before .before .before .before .loop .seen) (c .before .before .before .before .before .before .before .before .loop .starts) (c .before .before .before .before .before .before .before .before .loop .depths) (λ names h. first-child (c .before .before .before .before .before .before .before .before .before .before .before .before .before .before .before .before .before .before .args .s .now) (c .before .before .before .before .before .before .before .before .before .before .before .before .before .before .before .before .before .before .args .at) (c .before .before .before .before .before .before .before .before .before .before .before .before .before .before .before .before .before .before .args .left) (c .before .before .before .before .before .before .before .before .before .before .before .before .before .before .before .before .before .before .args .count) (c .before .before .before .before .before .before .before .before .before .before .before .before .before .before .before .before .before .before .args .starts .now) (c .before .before .before .before .before .before .before .before .before .before .before .before .before .before .before .before .before .before .args .depths .now) (c .before .before .before .before .before .before .before .before .before .before .before .before .before .before .before .before .opening-tag .result) (c .before .before .before .before .before .before .before .before .before .before .before .before .before .before .before .before .opening-tag .ensures) (not-false _ (c .before .before .before .before .before .before .before .before .before .before .before .before .before .before .if1 .left)) (c .before .before .before .before .before .before .before .before .before .before .before .before .before .before .before .before .before .before .pre .1 .5) (c .before .before .before .before .before .before .before .before .before .before .before .before .before .before .before .before .before .before .pre .1 .6) (c .before .before .before .before .before .before .before .before .before .before .before .before .before .before .before .before .before .before .pre .1 .7) (rw (c .before .before .before .before .before .before .before .before .before .before .before .before .before .peek .ensures) at (sym (c .before .before .before .before .before .before .before .before .before .before .before .before .is-text .ensures) ∙ c .before .before .before .before .before .before .before .before .before .before .before .if2 .left)) (rw (c .before .before .before .before .before .before .before .before .before .before .before .before .before .peek .ensures) at (sym (c .before .before .before .before .before .before .before .before .before .before .may-hold .ensures) ∙ not-false _ (c .before .before .before .before .before .before .before .before .before .if3 .left))) (sym (c .before .before .before .before .before .before .before .before .before .before .before .before .before .peek .ensures) ∙ (may-hold-parts (c .before .before .before .before .before .before .before .before .before .before .before .before .before .peek .result) ((c .before .before .before .before .before .before .before .before .before .before .before .before .before .before .before .before .opening-tag .result) .ccy) (c .before .before .before .before .before .before .before .before .before .before .before .before .before .before .before .before .before .before .args .left) ((c .before .before .before .before .before .before .before .before .before .before .before .before .before .before .before .before .before .before .args .count) + 1) (sym (c .before .before .before .before .before .before .before .before .before .before .may-hold .ensures) ∙ not-false _ (c .before .before .before .before .before .before .before .before .before .if3 .left))) .0) names h ∙ c .before .before .before .before .before .before .before .before .loop .inv .6 names h) ((may-hold-parts (c .before .before .before .before .before .before .before .before .before .before .before .before .before .peek .result) ((c .before .before .before .before .before .before .before .before .before .before .before .before .before .before .before .before .opening-tag .result) .ccy) (c .before .before .before .before .before .before .before .before .before .before .before .before .before .before .before .before .before .before .args .left) ((c .before .before .before .before .before .before .before .before .before .before .before .before .before .before .before .before .before .before .args .count) + 1) (sym (c .before .before .before .before .before .before .before .before .before .before .may-hold .ensures) ∙ not-false _ (c .before .before .before .before .before .before .before .before .before .if3 .left))) .1) (c .before .before .before .before .before .element .result) (c .before .before .before .before .before .element .last .1 .1 .1 .1 .0) (c .before .before .before .before .before .element .last .1 .1 .1 .1 .1 .0) (c .before .before .before .before .before .element .ensures) (not-false _ (c .before .before .before .if4 .left)) (λ e. c .before .if5 .taken (c .before .before .peek2 .ensures ∙ e))))
+element-returns-5 t c =
+    after-child (turned t (c .before .before .before .before .before)) (not-false _ (c .before .before .before .if4 .left))
+    (λ e. c .before .if5 .taken (c .before .before .peek2 .ensures ∙ e)) _ (c .stopped3 .ensures)
 
 element-add-i-2 : (t : ℕ) → element-lts.Need-add-i-2 (cs t) (element-at t) element.Post element-Inv-loop element-μ-loop
 element-add-i-2 t c = let p = (c .before .before .before .before .element .ensures .places (not-false _ (c .before .before .if4 .left))) in omega arith
@@ -171,25 +268,47 @@ element-peek-requires-3 : (t : ℕ) → element-lts.Need-peek-requires-3 (cs t) 
 element-peek-requires-3 t c κs = tt
 
 element-add-closing : (t : ℕ) → element-lts.Need-add-closing (cs t) (element-at t) element.Post element-Inv-loop element-μ-loop
-element-add-closing t c = let p = (c .before .before .before .before .before .before .element .ensures .places (not-false _ (c .before .before .before .before .if4 .left))) in omega arith
+element-add-closing t c =
+    let p = c .before .before .before .before .before .before .element .ensures .places (not-false _ (c .before .before .before .before .if4 .left)) in
+    omega arith
 
 element-closing-requires : (t : ℕ) → element-lts.Need-closing-requires (cs t) (element-at t) element.Post element-Inv-loop element-μ-loop
-element-closing-requires t c κs = let p = (c .before .before .before .before .before .before .before .before .before .before .before .before .before .before .before .before .before .opening-tag .ensures) .places (not-false _ (c .before .before .before .before .before .before .before .before .before .before .before .before .before .before .before .if1 .left)) in let i = in-sheet (c .before .before .before .before .before .before .before .before .before .before .before .before .before .before .before .before .before .before .before .args .s .now) ((c .before .before .before .before .before .before .element .result) .place + 1) 46 (sym (c .before .peek3 .ensures) ∙ c .if6 .taken) in (omega arith, omega arith, omega arith, c .before .before .before .before .before .before .before .before .before .before .before .before .before .before .before .before .before .before .before .pre .1 .2)
+element-closing-requires t c κs =
+    let child = c .before .before .before .before .before .before in
+    let inside = insideOf t child in
+    let start = startOf t inside in
+    let p = tagOf t inside .opening-tag .ensures .places (not-false _ (inside .before .before .before .before .before .if1 .left)) in
+    let i = in-sheet (start .args .s .now) (child .element .result .place + 1) 46 (sym (c .before .peek3 .ensures) ∙ c .if6 .taken) in
+    (omega arith, omega arith, omega arith, start .pre .1 .2)
 
 element-counted-requires-2 : (t : ℕ) → element-lts.Need-counted-requires-2 (cs t) (element-at t) element.Post element-Inv-loop element-μ-loop
 element-counted-requires-2 t c κs = tt
 
 element-returns-6 : (t : ℕ) → element-lts.Need-returns-6 (cs t) (element-at t) element.Post element-Inv-loop element-μ-loop
-element-returns-6 t c = let p = (c .before .before .before .before .before .before .before .before .element .ensures .places (not-false _ (c .before .before .before .before .before .before .if4 .left))) in let near = closing-places (c .before .before .before .before .before .before .before .before .before .before .before .before .before .before .before .before .before .before .before .before .before .args .s .now) ((c .before .before .before .before .before .before .before .before .element .result) .place + 1 + 1) (c .before .before .before .before .before .before .before .before .before .before .before .before .before .before .before .before .before .before .before .before .before .args .at) ((c .before .before .before .before .before .before .before .before .before .before .before .before .before .before .before .before .before .before .before .opening-tag .result) .to) (c .before .closing .result) (c .before .closing .ensures) in subst (λ (r : Came). ElementRead (c .before .before .before .before .before .before .before .before .before .before .before .before .before .before .before .before .before .before .before .before .before .args .s .now) (c .before .before .before .before .before .before .before .before .before .before .before .before .before .before .before .before .before .before .before .before .before .args .at) (c .before .before .before .before .before .before .before .before .before .before .before .before .before .before .before .before .before .before .before .before .before .args .left) (c .before .before .before .before .before .before .before .before .before .before .before .before .before .before .before .before .before .before .before .before .before .args .count) (c .before .before .before .before .before .before .before .before .before .before .before .before .before .before .before .before .before .before .before .before .before .args .starts .now) (c .before .before .before .before .before .before .before .before .before .before .before .before .before .before .before .before .before .before .before .before .before .args .depths .now) r (c .before .before .before .before .before .before .before .before .element .last .1 .1 .1 .1 .0) (c .before .before .before .before .before .before .before .before .element .last .1 .1 .1 .1 .1 .0)) (sym (c .counted2 .ensures)) (ends-closed (c .before .before .before .before .before .before .before .before .before .before .before .before .before .before .before .before .before .before .before .before .before .args .s .now) (c .before .before .before .before .before .before .before .before .before .before .before .before .before .before .before .before .before .before .before .before .before .args .at) (c .before .before .before .before .before .before .before .before .before .before .before .before .before .before .before .before .before .before .before .before .before .args .left) (c .before .before .before .before .before .before .before .before .before .before .before .before .before .before .before .before .before .before .before .before .before .args .count) (c .before .before .before .before .before .before .before .before .before .before .before .before .before .before .before .before .before .before .before .before .before .args .starts .now) (c .before .before .before .before .before .before .before .before .before .before .before .before .before .before .before .before .before .before .before .before .before .args .depths .now) (c .before .before .before .before .before .before .before .before .element .last .1 .1 .1 .1 .0) (c .before .before .before .before .before .before .before .before .element .last .1 .1 .1 .1 .1 .0) (c .before .before .before .before .before .before .before .before .element .ensures .long-starts) (c .before .before .before .before .before .before .before .before .element .ensures .long-depths) (c .before .closing .result) ((c .before .before .before .before .before .before .before .before .element .result) .count) (λ q e. let n = near q e in (omega arith, n .1)) (omega arith) (p .3) (λ q e. closed (c .before .before .before .before .before .before .before .before .before .before .before .before .before .before .before .before .before .before .before .before .before .args .s .now) (c .before .before .before .before .before .before .before .before .before .before .before .before .before .before .before .before .before .before .before .before .before .args .left) (partOf (c .before .before .before .before .before .before .before .before .before .before .before .before .before .before .before .before .before .before .before .before .before .args .s .now) (c .before .before .before .before .before .before .before .before .before .before .before .before .before .before .before .before .before .before .before .before .before .args .at) ((c .before .before .before .before .before .before .before .before .before .before .before .before .before .before .before .before .before .before .before .opening-tag .result) .to)) (whence (c .before .before .before .before .before .before .before .before .before .before .before .before .before .before .before .before .before .before .before .before .before .args .s .now) (c .before .before .before .before .before .before .before .before .before .before .before .before .before .before .before .before .before .before .before .before .before .args .at) (c .before .before .before .before .before .before .before .before .before .before .before .before .before .before .before .before .before .before .before .before .before .args .count) (c .before .before .before .before .before .before .before .before .before .before .before .before .before .before .before .before .before .before .before .before .before .args .starts .now) (c .before .before .before .before .before .before .before .before .before .before .before .before .before .before .before .before .before .before .before .before .before .args .depths .now)) (c .before .before .before .before .before .before .before .before .before .before .before .loop .i) (c .before .before .before .before .before .before .before .before .before .before .before .loop .seen) (c .before .before .before .before .before .before .before .before .before .before .before .loop .starts) (c .before .before .before .before .before .before .before .before .before .before .before .loop .depths) (λ names h. first-child (c .before .before .before .before .before .before .before .before .before .before .before .before .before .before .before .before .before .before .before .before .before .args .s .now) (c .before .before .before .before .before .before .before .before .before .before .before .before .before .before .before .before .before .before .before .before .before .args .at) (c .before .before .before .before .before .before .before .before .before .before .before .before .before .before .before .before .before .before .before .before .before .args .left) (c .before .before .before .before .before .before .before .before .before .before .before .before .before .before .before .before .before .before .before .before .before .args .count) (c .before .before .before .before .before .before .before .before .before .before .before .before .before .before .before .before .before .before .before .before .before .args .starts .now) (c .before .before .before .before .before .before .before .before .before .before .before .before .before .before .before .before .before .before .before .before .before .args .depths .now) (c .before .before .before .before .before .before .before .before .before .before .before .before .before .before .before .before .before .before .before .opening-tag .result) (c .before .before .before .before .before .before .before .before .before .before .before .before .before .before .before .before .before .before .before .opening-tag .ensures) (not-false _ (c .before .before .before .before .before .before .before .before .before .before .before .before .before .before .before .before .before .if1 .left)) (c .before .before .before .before .before .before .before .before .before .before .before .before .before .before .before .before .before .before .before .before .before .pre .1 .5) (c .before .before .before .before .before .before .before .before .before .before .before .before .before .before .before .before .before .before .before .before .before .pre .1 .6) (c .before .before .before .before .before .before .before .before .before .before .before .before .before .before .before .before .before .before .before .before .before .pre .1 .7) (rw (c .before .before .before .before .before .before .before .before .before .before .before .before .before .before .before .before .peek .ensures) at (sym (c .before .before .before .before .before .before .before .before .before .before .before .before .before .before .before .is-text .ensures) ∙ c .before .before .before .before .before .before .before .before .before .before .before .before .before .before .if2 .left)) (rw (c .before .before .before .before .before .before .before .before .before .before .before .before .before .before .before .before .peek .ensures) at (sym (c .before .before .before .before .before .before .before .before .before .before .before .before .before .may-hold .ensures) ∙ not-false _ (c .before .before .before .before .before .before .before .before .before .before .before .before .if3 .left))) (sym (c .before .before .before .before .before .before .before .before .before .before .before .before .before .before .before .before .peek .ensures) ∙ (may-hold-parts (c .before .before .before .before .before .before .before .before .before .before .before .before .before .before .before .before .peek .result) ((c .before .before .before .before .before .before .before .before .before .before .before .before .before .before .before .before .before .before .before .opening-tag .result) .ccy) (c .before .before .before .before .before .before .before .before .before .before .before .before .before .before .before .before .before .before .before .before .before .args .left) ((c .before .before .before .before .before .before .before .before .before .before .before .before .before .before .before .before .before .before .before .before .before .args .count) + 1) (sym (c .before .before .before .before .before .before .before .before .before .before .before .before .before .may-hold .ensures) ∙ not-false _ (c .before .before .before .before .before .before .before .before .before .before .before .before .if3 .left))) .0) names h ∙ c .before .before .before .before .before .before .before .before .before .before .before .loop .inv .6 names h) ((may-hold-parts (c .before .before .before .before .before .before .before .before .before .before .before .before .before .before .before .before .peek .result) ((c .before .before .before .before .before .before .before .before .before .before .before .before .before .before .before .before .before .before .before .opening-tag .result) .ccy) (c .before .before .before .before .before .before .before .before .before .before .before .before .before .before .before .before .before .before .before .before .before .args .left) ((c .before .before .before .before .before .before .before .before .before .before .before .before .before .before .before .before .before .before .before .before .before .args .count) + 1) (sym (c .before .before .before .before .before .before .before .before .before .before .before .before .before .may-hold .ensures) ∙ not-false _ (c .before .before .before .before .before .before .before .before .before .before .before .before .if3 .left))) .1) (c .before .before .before .before .before .before .before .before .element .result) (c .before .before .before .before .before .before .before .before .element .last .1 .1 .1 .1 .0) (c .before .before .before .before .before .before .before .before .element .last .1 .1 .1 .1 .1 .0) (c .before .before .before .before .before .before .before .before .element .ensures) (not-false _ (c .before .before .before .before .before .before .if4 .left)) (sym (c .before .before .before .before .before .peek2 .ensures) ∙ c .before .before .before .before .if5 .left) (c .before .before .before .before .before .before .before .before .before .before .before .before .before .before .before .before .before .before .before .before .before .args .at) ((c .before .before .before .before .before .before .before .before .before .before .before .before .before .before .before .before .before .before .before .opening-tag .result) .to) refl (sym (c .before .before .before .peek3 .ensures) ∙ c .before .before .if6 .taken) q (subst (ClosingRead (c .before .before .before .before .before .before .before .before .before .before .before .before .before .before .before .before .before .before .before .before .before .args .s .now) ((c .before .before .before .before .before .before .before .before .element .result) .place + 1 + 1) (c .before .before .before .before .before .before .before .before .before .before .before .before .before .before .before .before .before .before .before .before .before .args .at) ((c .before .before .before .before .before .before .before .before .before .before .before .before .before .before .before .before .before .before .before .opening-tag .result) .to)) e (c .before .closing .ensures))) (λ q e. not-closed (c .before .before .before .before .before .before .before .before .before .before .before .before .before .before .before .before .before .before .before .before .before .args .s .now) (c .before .before .before .before .before .before .before .before .before .before .before .before .before .before .before .before .before .before .before .before .before .args .left) (partOf (c .before .before .before .before .before .before .before .before .before .before .before .before .before .before .before .before .before .before .before .before .before .args .s .now) (c .before .before .before .before .before .before .before .before .before .before .before .before .before .before .before .before .before .before .before .before .before .args .at) ((c .before .before .before .before .before .before .before .before .before .before .before .before .before .before .before .before .before .before .before .opening-tag .result) .to)) (whence (c .before .before .before .before .before .before .before .before .before .before .before .before .before .before .before .before .before .before .before .before .before .args .s .now) (c .before .before .before .before .before .before .before .before .before .before .before .before .before .before .before .before .before .before .before .before .before .args .at) (c .before .before .before .before .before .before .before .before .before .before .before .before .before .before .before .before .before .before .before .before .before .args .count) (c .before .before .before .before .before .before .before .before .before .before .before .before .before .before .before .before .before .before .before .before .before .args .starts .now) (c .before .before .before .before .before .before .before .before .before .before .before .before .before .before .before .before .before .before .before .before .before .args .depths .now)) (c .before .before .before .before .before .before .before .before .before .before .before .loop .i) (c .before .before .before .before .before .before .before .before .before .before .before .loop .seen) (c .before .before .before .before .before .before .before .before .before .before .before .loop .starts) (c .before .before .before .before .before .before .before .before .before .before .before .loop .depths) (λ names h. first-child (c .before .before .before .before .before .before .before .before .before .before .before .before .before .before .before .before .before .before .before .before .before .args .s .now) (c .before .before .before .before .before .before .before .before .before .before .before .before .before .before .before .before .before .before .before .before .before .args .at) (c .before .before .before .before .before .before .before .before .before .before .before .before .before .before .before .before .before .before .before .before .before .args .left) (c .before .before .before .before .before .before .before .before .before .before .before .before .before .before .before .before .before .before .before .before .before .args .count) (c .before .before .before .before .before .before .before .before .before .before .before .before .before .before .before .before .before .before .before .before .before .args .starts .now) (c .before .before .before .before .before .before .before .before .before .before .before .before .before .before .before .before .before .before .before .before .before .args .depths .now) (c .before .before .before .before .before .before .before .before .before .before .before .before .before .before .before .before .before .before .before .opening-tag .result) (c .before .before .before .before .before .before .before .before .before .before .before .before .before .before .before .before .before .before .before .opening-tag .ensures) (not-false _ (c .before .before .before .before .before .before .before .before .before .before .before .before .before .before .before .before .before .if1 .left)) (c .before .before .before .before .before .before .before .before .before .before .before .before .before .before .before .before .before .before .before .before .before .pre .1 .5) (c .before .before .before .before .before .before .before .before .before .before .before .before .before .before .before .before .before .before .before .before .before .pre .1 .6) (c .before .before .before .before .before .before .before .before .before .before .before .before .before .before .before .before .before .before .before .before .before .pre .1 .7) (rw (c .before .before .before .before .before .before .before .before .before .before .before .before .before .before .before .before .peek .ensures) at (sym (c .before .before .before .before .before .before .before .before .before .before .before .before .before .before .before .is-text .ensures) ∙ c .before .before .before .before .before .before .before .before .before .before .before .before .before .before .if2 .left)) (rw (c .before .before .before .before .before .before .before .before .before .before .before .before .before .before .before .before .peek .ensures) at (sym (c .before .before .before .before .before .before .before .before .before .before .before .before .before .may-hold .ensures) ∙ not-false _ (c .before .before .before .before .before .before .before .before .before .before .before .before .if3 .left))) (sym (c .before .before .before .before .before .before .before .before .before .before .before .before .before .before .before .before .peek .ensures) ∙ (may-hold-parts (c .before .before .before .before .before .before .before .before .before .before .before .before .before .before .before .before .peek .result) ((c .before .before .before .before .before .before .before .before .before .before .before .before .before .before .before .before .before .before .before .opening-tag .result) .ccy) (c .before .before .before .before .before .before .before .before .before .before .before .before .before .before .before .before .before .before .before .before .before .args .left) ((c .before .before .before .before .before .before .before .before .before .before .before .before .before .before .before .before .before .before .before .before .before .args .count) + 1) (sym (c .before .before .before .before .before .before .before .before .before .before .before .before .before .may-hold .ensures) ∙ not-false _ (c .before .before .before .before .before .before .before .before .before .before .before .before .if3 .left))) .0) names h ∙ c .before .before .before .before .before .before .before .before .before .before .before .loop .inv .6 names h) ((may-hold-parts (c .before .before .before .before .before .before .before .before .before .before .before .before .before .before .before .before .peek .result) ((c .before .before .before .before .before .before .before .before .before .before .before .before .before .before .before .before .before .before .before .opening-tag .result) .ccy) (c .before .before .before .before .before .before .before .before .before .before .before .before .before .before .before .before .before .before .before .before .before .args .left) ((c .before .before .before .before .before .before .before .before .before .before .before .before .before .before .before .before .before .before .before .before .before .args .count) + 1) (sym (c .before .before .before .before .before .before .before .before .before .before .before .before .before .may-hold .ensures) ∙ not-false _ (c .before .before .before .before .before .before .before .before .before .before .before .before .if3 .left))) .1) (c .before .before .before .before .before .before .before .before .element .result) (c .before .before .before .before .before .before .before .before .element .last .1 .1 .1 .1 .0) (c .before .before .before .before .before .before .before .before .element .last .1 .1 .1 .1 .1 .0) (c .before .before .before .before .before .before .before .before .element .ensures) (not-false _ (c .before .before .before .before .before .before .if4 .left)) (sym (c .before .before .before .before .before .peek2 .ensures) ∙ c .before .before .before .before .if5 .left) (c .before .before .before .before .before .before .before .before .before .before .before .before .before .before .before .before .before .before .before .before .before .args .at) ((c .before .before .before .before .before .before .before .before .before .before .before .before .before .before .before .before .before .before .before .opening-tag .result) .to) refl (sym (c .before .before .before .peek3 .ensures) ∙ c .before .before .if6 .taken) q (subst (ClosingRead (c .before .before .before .before .before .before .before .before .before .before .before .before .before .before .before .before .before .before .before .before .before .args .s .now) ((c .before .before .before .before .before .before .before .before .element .result) .place + 1 + 1) (c .before .before .before .before .before .before .before .before .before .before .before .before .before .before .before .before .before .before .before .before .before .args .at) ((c .before .before .before .before .before .before .before .before .before .before .before .before .before .before .before .before .before .before .before .opening-tag .result) .to)) e (c .before .closing .ensures))))
+element-returns-6 t c =
+    in-closing (turned t (c .before .before .before .before .before .before .before .before))
+    (not-false _ (c .before .before .before .before .before .before .if4 .left))
+    (sym (c .before .before .before .before .before .peek2 .ensures) ∙ c .before .before .before .before .if5 .left)
+    (sym (c .before .before .before .peek3 .ensures) ∙ c .before .before .if6 .taken)
+    (c .before .closing .result) (c .before .closing .ensures) _ (c .counted2 .ensures)
 
 element-stopped-requires-4 : (t : ℕ) → element-lts.Need-stopped-requires-4 (cs t) (element-at t) element.Post element-Inv-loop element-μ-loop
 element-stopped-requires-4 t c κs = tt
 
 element-returns-7 : (t : ℕ) → element-lts.Need-returns-7 (cs t) (element-at t) element.Post element-Inv-loop element-μ-loop
-element-returns-7 t c = subst (λ (r : Came). ElementRead (c .before .before .before .before .before .before .before .before .before .before .before .before .before .before .before .before .before .before .before .before .before .args .s .now) (c .before .before .before .before .before .before .before .before .before .before .before .before .before .before .before .before .before .before .before .before .before .args .at) (c .before .before .before .before .before .before .before .before .before .before .before .before .before .before .before .before .before .before .before .before .before .args .left) (c .before .before .before .before .before .before .before .before .before .before .before .before .before .before .before .before .before .before .before .before .before .args .count) (c .before .before .before .before .before .before .before .before .before .before .before .before .before .before .before .before .before .before .before .before .before .args .starts .now) (c .before .before .before .before .before .before .before .before .before .before .before .before .before .before .before .before .before .before .before .before .before .args .depths .now) r (c .before .before .before .before .before .before .before .before .element .last .1 .1 .1 .1 .0) (c .before .before .before .before .before .before .before .before .element .last .1 .1 .1 .1 .1 .0)) (sym (c .stopped4 .ensures)) (ends-refused (c .before .before .before .before .before .before .before .before .before .before .before .before .before .before .before .before .before .before .before .before .before .args .s .now) (c .before .before .before .before .before .before .before .before .before .before .before .before .before .before .before .before .before .before .before .before .before .args .at) (c .before .before .before .before .before .before .before .before .before .before .before .before .before .before .before .before .before .before .before .before .before .args .left) (c .before .before .before .before .before .before .before .before .before .before .before .before .before .before .before .before .before .before .before .before .before .args .count) (c .before .before .before .before .before .before .before .before .before .before .before .before .before .before .before .before .before .before .before .before .before .args .starts .now) (c .before .before .before .before .before .before .before .before .before .before .before .before .before .before .before .before .before .before .before .before .before .args .depths .now) (c .before .before .before .before .before .before .before .before .element .last .1 .1 .1 .1 .0) (c .before .before .before .before .before .before .before .before .element .last .1 .1 .1 .1 .1 .0) (c .before .before .before .before .before .before .before .before .element .ensures .long-starts) (c .before .before .before .before .before .before .before .before .element .ensures .long-depths) ((c .before .before .before .before .before .before .before .before .element .result) .place + 1) (too-many (c .before .before .before .before .before .before .before .before .before .before .before .before .before .before .before .before .before .before .before .before .before .args .s .now) (c .before .before .before .before .before .before .before .before .before .before .before .before .before .before .before .before .before .before .before .before .before .args .left) (partOf (c .before .before .before .before .before .before .before .before .before .before .before .before .before .before .before .before .before .before .before .before .before .args .s .now) (c .before .before .before .before .before .before .before .before .before .before .before .before .before .before .before .before .before .before .before .before .before .args .at) ((c .before .before .before .before .before .before .before .before .before .before .before .before .before .before .before .before .before .before .before .opening-tag .result) .to)) (whence (c .before .before .before .before .before .before .before .before .before .before .before .before .before .before .before .before .before .before .before .before .before .args .s .now) (c .before .before .before .before .before .before .before .before .before .before .before .before .before .before .before .before .before .before .before .before .before .args .at) (c .before .before .before .before .before .before .before .before .before .before .before .before .before .before .before .before .before .before .before .before .before .args .count) (c .before .before .before .before .before .before .before .before .before .before .before .before .before .before .before .before .before .before .before .before .before .args .starts .now) (c .before .before .before .before .before .before .before .before .before .before .before .before .before .before .before .before .before .before .before .before .before .args .depths .now)) (c .before .before .before .before .before .before .before .before .before .before .before .loop .i) (c .before .before .before .before .before .before .before .before .before .before .before .loop .seen) (c .before .before .before .before .before .before .before .before .before .before .before .loop .starts) (c .before .before .before .before .before .before .before .before .before .before .before .loop .depths) (λ names h. first-child (c .before .before .before .before .before .before .before .before .before .before .before .before .before .before .before .before .before .before .before .before .before .args .s .now) (c .before .before .before .before .before .before .before .before .before .before .before .before .before .before .before .before .before .before .before .before .before .args .at) (c .before .before .before .before .before .before .before .before .before .before .before .before .before .before .before .before .before .before .before .before .before .args .left) (c .before .before .before .before .before .before .before .before .before .before .before .before .before .before .before .before .before .before .before .before .before .args .count) (c .before .before .before .before .before .before .before .before .before .before .before .before .before .before .before .before .before .before .before .before .before .args .starts .now) (c .before .before .before .before .before .before .before .before .before .before .before .before .before .before .before .before .before .before .before .before .before .args .depths .now) (c .before .before .before .before .before .before .before .before .before .before .before .before .before .before .before .before .before .before .before .opening-tag .result) (c .before .before .before .before .before .before .before .before .before .before .before .before .before .before .before .before .before .before .before .opening-tag .ensures) (not-false _ (c .before .before .before .before .before .before .before .before .before .before .before .before .before .before .before .before .before .if1 .left)) (c .before .before .before .before .before .before .before .before .before .before .before .before .before .before .before .before .before .before .before .before .before .pre .1 .5) (c .before .before .before .before .before .before .before .before .before .before .before .before .before .before .before .before .before .before .before .before .before .pre .1 .6) (c .before .before .before .before .before .before .before .before .before .before .before .before .before .before .before .before .before .before .before .before .before .pre .1 .7) (rw (c .before .before .before .before .before .before .before .before .before .before .before .before .before .before .before .before .peek .ensures) at (sym (c .before .before .before .before .before .before .before .before .before .before .before .before .before .before .before .is-text .ensures) ∙ c .before .before .before .before .before .before .before .before .before .before .before .before .before .before .if2 .left)) (rw (c .before .before .before .before .before .before .before .before .before .before .before .before .before .before .before .before .peek .ensures) at (sym (c .before .before .before .before .before .before .before .before .before .before .before .before .before .may-hold .ensures) ∙ not-false _ (c .before .before .before .before .before .before .before .before .before .before .before .before .if3 .left))) (sym (c .before .before .before .before .before .before .before .before .before .before .before .before .before .before .before .before .peek .ensures) ∙ (may-hold-parts (c .before .before .before .before .before .before .before .before .before .before .before .before .before .before .before .before .peek .result) ((c .before .before .before .before .before .before .before .before .before .before .before .before .before .before .before .before .before .before .before .opening-tag .result) .ccy) (c .before .before .before .before .before .before .before .before .before .before .before .before .before .before .before .before .before .before .before .before .before .args .left) ((c .before .before .before .before .before .before .before .before .before .before .before .before .before .before .before .before .before .before .before .before .before .args .count) + 1) (sym (c .before .before .before .before .before .before .before .before .before .before .before .before .before .may-hold .ensures) ∙ not-false _ (c .before .before .before .before .before .before .before .before .before .before .before .before .if3 .left))) .0) names h ∙ c .before .before .before .before .before .before .before .before .before .before .before .loop .inv .6 names h) ((may-hold-parts (c .before .before .before .before .before .before .before .before .before .before .before .before .before .before .before .before .peek .result) ((c .before .before .before .before .before .before .before .before .before .before .before .before .before .before .before .before .before .before .before .opening-tag .result) .ccy) (c .before .before .before .before .before .before .before .before .before .before .before .before .before .before .before .before .before .before .before .before .before .args .left) ((c .before .before .before .before .before .before .before .before .before .before .before .before .before .before .before .before .before .before .before .before .before .args .count) + 1) (sym (c .before .before .before .before .before .before .before .before .before .before .before .before .before .may-hold .ensures) ∙ not-false _ (c .before .before .before .before .before .before .before .before .before .before .before .before .if3 .left))) .1) (c .before .before .before .before .before .before .before .before .element .result) (c .before .before .before .before .before .before .before .before .element .last .1 .1 .1 .1 .0) (c .before .before .before .before .before .before .before .before .element .last .1 .1 .1 .1 .1 .0) (c .before .before .before .before .before .before .before .before .element .ensures) (not-false _ (c .before .before .before .before .before .before .if4 .left)) (sym (c .before .before .before .before .before .peek2 .ensures) ∙ c .before .before .before .before .if5 .left) (λ e. c .before .before .if6 .left (c .before .before .before .peek3 .ensures ∙ e)) (c .before .if7 .taken)))
+element-returns-7 t c =
+    in-sibling (turned t (c .before .before .before .before .before .before .before .before))
+    (not-false _ (c .before .before .before .before .before .before .if4 .left))
+    (sym (c .before .before .before .before .before .peek2 .ensures) ∙ c .before .before .before .before .if5 .left)
+    (λ e. c .before .before .if6 .left (c .before .before .before .peek3 .ensures ∙ e)) (c .before .if7 .taken) _ (c .stopped4 .ensures)
 
 element-loop-less : (t : ℕ) → element-lts.Need-loop-less (cs t) (element-at t) element.Post element-Inv-loop element-μ-loop
-element-loop-less t c = let p = (c .before .before .before .before .before .before .before .element .ensures .places (not-false _ (c .before .before .before .before .before .if4 .left))) in let i = in-sheet (c .before .before .before .before .before .before .before .before .before .before .before .before .before .before .before .before .before .before .before .before .args .s .now) ((c .before .before .before .before .before .before .before .element .result) .place) 59 (sym (c .before .before .before .before .peek2 .ensures) ∙ c .before .before .before .if5 .left) in omega arith
+element-loop-less t c =
+    let child = c .before .before .before .before .before .before .before in
+    let p = child .element .ensures .places (not-false _ (c .before .before .before .before .before .if4 .left)) in
+    let s = startOf t (insideOf t child) .args .s .now in
+    let i = in-sheet s (child .element .result .place) 59 (sym (c .before .before .before .before .peek2 .ensures) ∙ c .before .before .before .if5 .left) in
+    omega arith
 
 element-loop-again : (t : ℕ) → element-lts.Need-loop-again (cs t) (element-at t) element.Post element-Inv-loop element-μ-loop
 element-loop-again t c =
