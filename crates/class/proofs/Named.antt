@@ -25,7 +25,7 @@ pub one-more-named : (g : Gathered) (p : Participant) → length (g .records) �
 unfolding directoryIn withBank added
 one-more-named g p l h =
     let places : g .count < length (g .records) = omega arith in
-    let none : g .count - 16 ≡ 0 = omega arith in
-    let none-more : suc (g .count) - 16 ≡ 0 = omega arith in
-    rw (le-ltb 16 (g .count) (omega arith), lt-ltb (g .count) 16 h, none, none-more, take-suc-set (g .records) (g .count) p places)
+    let none : g .count - recordsMost ≡ 0 = omega arith in
+    let none-more : suc (g .count) - recordsMost ≡ 0 = omega arith in
+    rw (le-ltb recordsMost (g .count) (omega arith), lt-ltb (g .count) recordsMost h, none, none-more, take-suc-set (g .records) (g .count) p places)
     (append-nil (take (g .count) (g .records) ++ (p ∷ [])) ∙ ap (λ (s : List Participant). s ++ (p ∷ [])) (sym (append-nil (take (g .count) (g .records)))))

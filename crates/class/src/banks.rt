@@ -2,14 +2,12 @@
 use directory::Gathered;
 use directory::Kind;
 use directory::Participant;
+use directory::RECORDS_MOST;
 use script::Line;
 use script::Word;
 ghost use mathlib.Core.Path.{_≡_};
 ghost use Rattle.directory.specs.Gathering.{nobody, noneGathered};
 ghost use Rattle.class.specs.Banks.{bankOf, withBank, withLine};
-
-// How many banks a directory has at most.
-const BANKS_MOST: usize = 16;
 
 fn nobody() -> Participant
     ensures { λ r. ⌜ r ≡ nobody ⌝ }
@@ -27,7 +25,7 @@ pub fn no_banks() -> Gathered
 {
     Gathered {
         count: 0,
-        records: [nobody(); 16],
+        records: [nobody(); RECORDS_MOST],
     }
 }
 
@@ -37,10 +35,10 @@ fn with_bank(g: Gathered, p: Participant) -> Gathered
 {
     let at = g.count;
     let mut next = g;
-    if BANKS_MOST < at {
+    if RECORDS_MOST < at {
         return next;
     }
-    if at < BANKS_MOST {
+    if at < RECORDS_MOST {
         next.records[at] = p;
     }
     next.count = at + 1;

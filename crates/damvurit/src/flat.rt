@@ -3,6 +3,7 @@
 use directory::Gathered;
 use directory::Kind;
 use directory::Participant;
+use directory::RECORDS_MOST;
 ghost use mathlib.Core.Path.{_≡_};
 ghost use Rattle.directory.specs.Gathering.{noneGathered, gathered};
 ghost use Rattle.damvurit.specs.Flat.{kindOf, recordGood, recordOf, flatDirectory};
@@ -50,7 +51,7 @@ fn no_records() -> Gathered
     };
     Gathered {
         count: 0,
-        records: [nobody; 16],
+        records: [nobody; RECORDS_MOST],
     }
 }
 
@@ -73,7 +74,7 @@ pub fn gather_flat(dir: &[u64]) -> Gathered
         }
         // One record more: in the next place while there is one, and counted in any case.
         let at = out.count;
-        if at < 16 {
+        if at < RECORDS_MOST {
             out.records[at] = record_of(code, instant, kind, named);
         }
         out.count = at + 1;

@@ -4,6 +4,7 @@ use check::same;
 use directory::Gathered;
 use directory::Kind;
 use directory::Participant;
+use directory::RECORDS_MOST;
 
 fn nobody() -> Participant {
     Participant {
@@ -16,7 +17,7 @@ fn nobody() -> Participant {
 pub fn no_records() -> Gathered {
     Gathered {
         count: 0,
-        records: [nobody(); 16],
+        records: [nobody(); RECORDS_MOST],
     }
 }
 
@@ -43,10 +44,10 @@ fn record_in(n: Numbers) -> Participant {
 fn with_record(g: Gathered, p: Participant) -> Gathered {
     let at = g.count;
     let mut next = g;
-    if 16 < at {
+    if RECORDS_MOST < at {
         return next;
     }
-    if at < 16 {
+    if at < RECORDS_MOST {
         next.records[at] = p;
     }
     next.count = at + 1;

@@ -10,6 +10,7 @@ use centre::read_account;
 use centre::set_account;
 use centre::submit_sheet;
 use directory::Gathered;
+use directory::RECORDS_MOST;
 use seat::Wish;
 ghost use mathlib.Core.Path.{_≡_};
 ghost use Rattle.directory.specs.Gathering.{directoryIn};
@@ -18,14 +19,11 @@ ghost use Rattle.centre.specs.Calls.{openTold, openAfter, setTold, setAfter, re
 ghost use Rattle.centre.specs.Submit.{submitTold, submitAfter, submitSlip};
 ghost use Rattle.lender.specs.Lending.{lentCount};
 
-// How many places a gathered directory has.
-const PLACES: usize = 16;
-
 // How many records of a gathered directory are lent.
 fn lent_count(g: Gathered) -> usize
     ensures { λ r. ⌜ r ≡ lentCount g ⌝ }
 {
-    if PLACES < g.count {
+    if RECORDS_MOST < g.count {
         return 0;
     }
     g.count

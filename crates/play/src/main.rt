@@ -5,6 +5,7 @@ use directory::Found;
 use directory::Gathered;
 use directory::Kind;
 use directory::Participant;
+use directory::RECORDS_MOST;
 use journal::append;
 use journal::is_possible;
 use layout::ROOM_LONG;
@@ -31,6 +32,7 @@ use shape::stored::uetr_of;
 ghost use Prim.Native.Nat.{_≤_};
 ghost use mathlib.Core.Path.{_≡_};
 ghost use mathlib.Core.Bool.{true};
+ghost use Rattle.directory.specs.Directory.{recordsMost};
 ghost use Rattle.seat.specs.Calls.{placeFits};
 
 fn put(text: &[u8]) {
@@ -96,9 +98,9 @@ fn owner(code: u64) -> Participant {
 
 // Two owners.
 fn class() -> Gathered
-    ensures { λ r. ⌜ r .count ≤ 16 ⌝ }
+    ensures { λ r. ⌜ r .count ≤ recordsMost ⌝ }
 {
-    let mut records = [owner(0); 16];
+    let mut records = [owner(0); RECORDS_MOST];
     records[0] = owner(300001);
     records[1] = owner(300002);
     Gathered { count: 2, records }
