@@ -15,7 +15,7 @@ use Rattle.shape.specs.Numbers.{decimal}
 use Rattle.shape.specs.Patterns.{fits, within}
 use Rattle.shape.specs.Text.{bytes}
 use Rattle.shape.proofs.Tests.{and-left, and-right, or-cases, or-left, or-right, in-range}
-use Rattle.table.specs.Checks.{checks, numberIn, isoIn, absent, blank, lineOf, sepOf, isoOf, from, orderOf, isIn, runs}
+use Rattle.table.specs.Checks.{checksMost, checks, numberIn, isoIn, absent, blank, lineOf, sepOf, isoOf, from, orderOf, isIn, runs}
 use Rattle.table.specs.declared.Kind.{Kind}
 use Rattle.table.specs.declared.Kind.the-variants.{Pacs008, Camt050, Pacs028}
 use Rattle.table.proofs.Lines.{each}
@@ -32,17 +32,22 @@ counted f a (suc m) t n h k =
     (λ (l : a < n). counted f (suc a) m (and-right (f a) (every f (from (suc a) m)) t) n l (omega arith))
     (eq-or-lt-of-le h)
 
+-- the table has a line for each check
+pub checks-counted : length checks ≡ checksMost
+unfolding checks
+checks-counted = refl
+
 -- the line of a check bears its number
-pub numbers-count : (n : ℕ) → 1 ≤ n → n ≤ 34 → numberIn (lineOf n) ≡ n
+pub numbers-count : (n : ℕ) → 1 ≤ n → n ≤ checksMost → numberIn (lineOf n) ≡ n
 unfolding lineOf checks decimal
 numbers-count n h k =
     eqb-true (numberIn (lineOf n)) n
-    (counted (λ (x : ℕ). eqb (numberIn (lineOf x)) x) 1 34 refl n h (omega arith))
+    (counted (λ (x : ℕ). eqb (numberIn (lineOf x)) x) 1 checksMost refl n h (omega arith))
 
 -- the SEP code of a check is four capitals or digits
-pub sep-is-code : (n : ℕ) → 1 ≤ n → n ≤ 34 → isCode (sepOf n) ≡ true
+pub sep-is-code : (n : ℕ) → 1 ≤ n → n ≤ checksMost → isCode (sepOf n) ≡ true
 unfolding sepOf lineOf checks isDigitOrCapital isDigit isCapital
-sep-is-code n h k = counted (λ (x : ℕ). isCode (sepOf x)) 1 34 refl n h (omega arith)
+sep-is-code n h k = counted (λ (x : ℕ). isCode (sepOf x)) 1 checksMost refl n h (omega arith)
 
 -- two texts are the same
 same : List ℕ → List ℕ → Bool
@@ -77,10 +82,10 @@ iso-is-code n =
     inl (λ e. inr (same-true (isoIn (lineOf n)) absent e))
 
 -- a line is two digits, a SEP code and an ISO code or blanks, with a blank between
-pub lines-shaped : (n : ℕ) → 1 ≤ n → n ≤ 34 → (fits (bytes "## **** ****") (lineOf n) || fits (bytes "## ****     ") (lineOf n)) ≡ true
+pub lines-shaped : (n : ℕ) → 1 ≤ n → n ≤ checksMost → (fits (bytes "## **** ****") (lineOf n) || fits (bytes "## ****     ") (lineOf n)) ≡ true
 unfolding lineOf checks fits within isDigitOrCapital isDigit isCapital
 lines-shaped n h k =
-    counted (λ (x : ℕ). fits (bytes "## **** ****") (lineOf x) || fits (bytes "## ****     ") (lineOf x)) 1 34 refl n h (omega arith)
+    counted (λ (x : ℕ). fits (bytes "## **** ****") (lineOf x) || fits (bytes "## ****     ") (lineOf x)) 1 checksMost refl n h (omega arith)
 
 -- camt.050 uses no ISO code
 pub camt-050-has-none : (n : ℕ) → isoOf Camt050 n ≡ absent
@@ -88,7 +93,7 @@ unfolding isoOf
 camt-050-has-none n = refl
 
 -- law: what is tested of each number in a list holds of a number that is in it
-of-entry : (f : ℕ → Bool) (ks : List ℕ) → every f ks ≡ true → (n : ℕ) → isIn n ks ≡ true → f n ≡ true
+pub of-entry : (f : ℕ → Bool) (ks : List ℕ) → every f ks ≡ true → (n : ℕ) → isIn n ks ≡ true → f n ≡ true
 of-entry f [] t n i = absurd (false≢true i)
 of-entry f (k ∷ ks) t n i =
     or-cases (eqb n k) (isIn n ks) i
@@ -97,7 +102,7 @@ of-entry f (k ∷ ks) t n i =
 
 -- the numbers of the table
 in-table : ℕ → Bool
-in-table n = leb 1 n && leb n 34
+in-table n = leb 1 n && leb n checksMost
 
 orders-in-table : (kind : Kind) → every in-table (orderOf kind) ≡ true
 unfolding orderOf in-table
@@ -106,9 +111,9 @@ orders-in-table Camt050 = refl
 orders-in-table Pacs028 = refl
 
 -- only checks of the table run
-pub runs-in-table : (kind : Kind) (n : ℕ) → runs kind n ≡ true → (1 ≤ n) × (n ≤ 34)
+pub runs-in-table : (kind : Kind) (n : ℕ) → runs kind n ≡ true → (1 ≤ n) × (n ≤ checksMost)
 unfolding runs in-table
-runs-in-table kind n r = in-range 1 34 n (of-entry in-table (orderOf kind) (orders-in-table kind) n r)
+runs-in-table kind n r = in-range 1 checksMost n (of-entry in-table (orderOf kind) (orders-in-table kind) n r)
 
 -- each check that runs for a kind which uses ISO codes has one
 pub iso-given-008 : (n : ℕ) → runs Pacs008 n ≡ true → isCode (isoOf Pacs008 n) ≡ true

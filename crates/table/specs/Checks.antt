@@ -10,6 +10,10 @@ use Rattle.shape.specs.Numbers.{decimal}
 use Rattle.table.specs.declared.Kind.{Kind}
 use Rattle.table.specs.declared.Kind.the-variants.{Pacs008, Camt050, Pacs028}
 
+-- how many checks there are, numbered from 1 on
+abbrev pub checksMost : ℕ
+checksMost = 34
+
 -- all checks, a line for each: number, SEP code, ISO code or blanks
 unfoldable pub checks : List (List ℕ)
 checks =

@@ -5,7 +5,7 @@ ghost use mathlib.Core.List.{[]};
 ghost use Prim.Native.Nat.{_<_, _≤_};
 ghost use lib.ListN.{length, getD};
 ghost use Rattle.table.specs.declared.Kind.the-variants.{Pacs008, Camt050, Pacs028};
-ghost use Rattle.table.specs.Checks.{checks, lineOf, sepOf, isoOf, orderOf, runs};
+ghost use Rattle.table.specs.Checks.{checksMost, checks, lineOf, sepOf, isoOf, orderOf, runs};
 
 // The kinds of messages.
 pub enum Kind {
@@ -17,8 +17,11 @@ pub enum Kind {
 // Four blanks: a code that there is none of.
 pub const ABSENT: [u8; 4] = *b"    ";
 
+// How many checks there are, numbered from 1 on.
+pub const CHECKS_MOST: u64 = 34;
+
 // All checks, a line for each: number, SEP code, ISO code or blanks.
-const CHECKS: [[u8; 12]; 34] = [
+const CHECKS: [[u8; 12]; CHECKS_MOST as usize] = [
     *b"01 TE03 AGNT",
     *b"02 TE04 AGNT",
     *b"03 TE07 AGNT",
@@ -108,7 +111,7 @@ const CAMT_050: [u8; 20] = [
 const PACS_028: [u8; 10] = [1, 2, 3, 5, 6, 7, 8, 9, 10, 11];
 
 fn line_at(place: usize) -> [u8; 12]
-    requires { ⌜ place < 34 ⌝ }
+    requires { ⌜ place < checksMost ⌝ }
     ensures { λ r. ⌜ r ≡ getD checks place [] ⌝ }
 {
     CHECKS[place]
@@ -121,7 +124,7 @@ fn line(number: u64) -> [u8; 12]
     if number == 0 {
         return *b"            ";
     }
-    if 34 < number {
+    if CHECKS_MOST < number {
         return *b"            ";
     }
     line_at((number - 1) as usize)
@@ -181,7 +184,7 @@ pub fn order_at(kind: Kind, place: usize) -> u64
 
 // Whether a number up to that of the last check is among the checks of pacs.008, camt.050 or pacs.028.
 fn in_pacs_008(number: u64) -> bool
-    requires { ⌜ number ≤ 34 ⌝ }
+    requires { ⌜ number ≤ checksMost ⌝ }
     ensures { λ r. ⌜ r ≡ runs Pacs008 number ⌝ }
 {
     ((1 <= number) & (number <= 3))
@@ -191,14 +194,14 @@ fn in_pacs_008(number: u64) -> bool
 }
 
 fn in_camt_050(number: u64) -> bool
-    requires { ⌜ number ≤ 34 ⌝ }
+    requires { ⌜ number ≤ checksMost ⌝ }
     ensures { λ r. ⌜ r ≡ runs Camt050 number ⌝ }
 {
     ((1 <= number) & (number <= 7)) | ((12 <= number) & (number <= 24))
 }
 
 fn in_pacs_028(number: u64) -> bool
-    requires { ⌜ number ≤ 34 ⌝ }
+    requires { ⌜ number ≤ checksMost ⌝ }
     ensures { λ r. ⌜ r ≡ runs Pacs028 number ⌝ }
 {
     ((1 <= number) & (number <= 3)) | ((5 <= number) & (number <= 11))
@@ -208,7 +211,7 @@ fn in_pacs_028(number: u64) -> bool
 pub fn in_order(kind: Kind, number: u64) -> bool
     ensures { λ r. ⌜ r ≡ runs kind number ⌝ }
 {
-    if 34 < number {
+    if CHECKS_MOST < number {
         return false;
     }
     match kind {
