@@ -1,6 +1,9 @@
 pub mod Meanings
+pub mod Orders
+pub mod Ranges
 pub mod Small
 pub mod Bytes
+pub mod Forms
 pub mod Exact
 pub mod Cases
 pub mod Settled

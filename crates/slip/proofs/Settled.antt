@@ -8,10 +8,6 @@ use Rattle.slip.proofs.kind_number.Kinds as kind-number-kinds
 use Rattle.slip.proofs.kind_number.Reads as kind-number-reads
 use Rattle.slip.proofs.status_number.Kinds as status-number-kinds
 use Rattle.slip.proofs.status_number.Reads as status-number-reads
-use Rattle.slip.proofs.can_appear.Kinds as can-appear-kinds
-use Rattle.slip.proofs.can_appear.Reads as can-appear-reads
-use Rattle.slip.proofs.can_end.Kinds as can-end-kinds
-use Rattle.slip.proofs.can_end.Reads as can-end-reads
 use Rattle.slip.proofs.can_say.Kinds as can-say-kinds
 use Rattle.slip.proofs.can_say.Reads as can-say-reads
 use Rattle.slip.proofs.is_slip.Kinds as is-slip-kinds
@@ -26,12 +22,6 @@ kind-number κs a x y e f = by-equation
 
 pub status-number : Settled _ status-number-kinds.ps status-number-kinds.r status-number-reads.Post
 status-number κs a x y e f = by-equation
-
-pub can-appear : Settled _ can-appear-kinds.ps can-appear-kinds.r can-appear-reads.Post
-can-appear κs a x y e f = by-equation
-
-pub can-end : Settled _ can-end-kinds.ps can-end-kinds.r can-end-reads.Post
-can-end κs a x y e f = by-equation
 
 pub can-say : Settled _ can-say-kinds.ps can-say-kinds.r can-say-reads.Post
 can-say κs a x y e f = by-equation

@@ -1,67 +1,35 @@
--- The values of a slip fit the widths of its fields.
+-- A form is sound where its bits fill its bytes and what its slips may hold fits their fields. So the values of a slip fit their fields.
 -- Assumes nothing.
-use mathlib.Core.Path.{_≡_, refl, sym, subst, _∙_}
-use mathlib.Core.Bool.{Bool, true, false, _&&_, _||_, false≢true}
-use mathlib.Core.List.{List, [], _∷_}
-use Prim.Native.Nat.{ℕ, _-_, _≤_}
+use mathlib.Core.Path.{_≡_, refl}
+use mathlib.Core.Bool.{Bool, true, false, _&&_, false≢true}
+use Prim.Native.Nat.{ℕ, zero, suc, _*_, _-_, _^_, _<_, _≤_}
 use native.Mathlib.Omega.{arith}
-use lib.Dec.{leb, eqb}
-use lib.ListN.{drop}
-use borrow.Author.Tests.{leb-true, eqb-true}
+use lib.Dec.{leb, ltb, lit<}
+use lib.Pow.{pow-pos}
+use borrow.Author.Tests.{leb-true, ltb-true}
+use Rattle.shape.specs.Bits.{total}
 use Rattle.shape.specs.Bytes.{every}
 use Rattle.shape.proofs.Bits.{Small}
-use Rattle.shape.proofs.Tests.{and-left, and-right, or-cases}
-use Rattle.table.specs.declared.Kind.{Kind}
-use Rattle.table.specs.declared.Kind.the-variants.{Pacs008, Camt050, Pacs028}
-use Rattle.table.specs.Checks.{orderOf, isIn}
+use Rattle.shape.proofs.Tests.{and-left, and-right}
 use Rattle.slip.specs.declared.Slip.{Slip}
-use Rattle.slip.specs.Meaning.{kindNumber, statusNumber, seats, openings, steps, appears, endsWith, says, isSlip}
-use Rattle.slip.specs.Image.{fieldsOf}
+use Rattle.slip.specs.Meaning.{kindNumber, statusNumber, openings, steps, sayings, saysIn, Widths, Form, fiveBytes, isSlipIn, isSlip}
+use Rattle.slip.specs.Image.{byteWide, spareFields, widthsIn, fieldsIn, Fits, fieldsOf}
+use Rattle.slip.proofs.Meanings.{ofSaying, of-sayings}
 
--- a number of a list is as small as all of the list are
-in-small : (k m : ℕ) (ks : List ℕ) → every (λ (n : ℕ). leb n m) ks ≡ true → isIn k ks ≡ true → k ≤ m
-in-small k m [] t e = absurd (false≢true e)
-in-small k m (n ∷ ks) t e =
-    or-cases (eqb k n) (isIn k ks) e
-    (λ h. subst (λ (i : ℕ). i ≤ m) (sym (eqb-true k n h)) (leb-true n m (and-left (leb n m) (every (λ (i : ℕ). leb i m) ks) t)))
-    (λ h. in-small k m ks (and-right (leb n m) (every (λ (i : ℕ). leb i m) ks) t) h)
+-- a kind, a status and a check fit their fields
+abbrev pub sayingFits : Widths → ℕ → ℕ → ℕ → Bool
+sayingFits w kind status check = ltb kind (2 ^ w .kind) && ltb status (2 ^ w .status) && ltb check (2 ^ w .check)
 
-pub appears-small : (kind : Kind) (k : ℕ) → appears kind k ≡ true → k ≤ 34
-unfolding appears orderOf
-appears-small Pacs008 k e = in-small k 34 (drop 2 (orderOf Pacs008)) refl e
-appears-small Camt050 k e = in-small k 34 (drop 2 (orderOf Camt050)) refl e
-appears-small Pacs028 k e = in-small k 34 (drop 2 (orderOf Pacs028)) refl e
+pub record Sound (form : Form) : Type 0 where
+  pub filled : total (widthsIn form) ≡ form .long * byteWide
+  pub said : every (ofSaying (sayingFits (form .widths))) (form .sayings) ≡ true
+  pub seat : form .seats - 1 < 2 ^ form .widths .seat
+  pub opening : openings < 2 ^ form .widths .opening
+  pub step : steps < 2 ^ form .widths .step
 
-ends-small : (kind : Kind) (s k : ℕ) → endsWith kind s k ≡ true → (s ≤ 2) × (k ≤ 34)
-unfolding endsWith statusNumber
-ends-small kind s k e =
-    or-cases (eqb s 1 && eqb k 0) (eqb s 2 && appears kind k) e
-    (λ h. let p = eqb-true s 1 (and-left (eqb s 1) (eqb k 0) h) in
-    let q = eqb-true k 0 (and-right (eqb s 1) (eqb k 0) h) in (omega arith, omega arith))
-    (λ h. let p = eqb-true s 2 (and-left (eqb s 2) (appears kind k) h) in
-    (omega arith, appears-small kind k (and-right (eqb s 2) (appears kind k) h)))
-
-tells-small : (s k : ℕ) → (eqb s 0 && appears Pacs028 k || endsWith Pacs008 s k) ≡ true → (s ≤ 2) × (k ≤ 34)
-tells-small s k e =
-    or-cases (eqb s 0 && appears Pacs028 k) (endsWith Pacs008 s k) e
-    (λ h. let p = eqb-true s 0 (and-left (eqb s 0) (appears Pacs028 k) h) in
-    (omega arith, appears-small Pacs028 k (and-right (eqb s 0) (appears Pacs028 k) h)))
-    (ends-small Pacs008 s k)
-
-with-kind : (m n s k : ℕ) (t : Bool) → n ≤ 3 → (t ≡ true → (s ≤ 2) × (k ≤ 34)) → (eqb m n && t) ≡ true → (m ≤ 3) × (s ≤ 2) × (k ≤ 34)
-with-kind m n s k t h f e =
-    let p = eqb-true m n (and-left (eqb m n) t e) in
-    let q = f (and-right (eqb m n) t e) in
-    (omega arith, q .0, q .1)
-
-pub says-small : (m s k : ℕ) → says m s k ≡ true → (m ≤ 3) × (s ≤ 2) × (k ≤ 34)
-unfolding says kindNumber statusNumber
-says-small m s k e =
-    or-cases (eqb m 1 && endsWith Pacs008 s k || eqb m 2 && endsWith Camt050 s k) (eqb m 3 && (eqb s 0 && appears Pacs028 k || endsWith Pacs008 s k)) e
-    (λ h. or-cases (eqb m 1 && endsWith Pacs008 s k) (eqb m 2 && endsWith Camt050 s k) h
-    (with-kind m 1 s k (endsWith Pacs008 s k) (omega arith) (ends-small Pacs008 s k))
-    (with-kind m 2 s k (endsWith Camt050 s k) (omega arith) (ends-small Camt050 s k)))
-    (with-kind m 3 s k (eqb s 0 && appears Pacs028 k || endsWith Pacs008 s k) (omega arith) (tells-small s k))
+pub five-sound : Sound fiveBytes
+unfolding sayings kindNumber statusNumber
+five-sound = record { filled = refl; said = refl; seat = lit< tt; opening = lit< tt; step = lit< tt }
 
 six : (a b c d e f : Bool) → (a && b && c && d && e && f) ≡ true → (a ≡ true) × (b ≡ true) × (d ≡ true) × (f ≡ true)
 six true true true true true true h = (refl, refl, refl, refl)
@@ -72,13 +40,36 @@ six true true false d e f h = absurd (false≢true h)
 six true false c d e f h = absurd (false≢true h)
 six false b c d e f h = absurd (false≢true h)
 
--- the values of a slip fit their fields
+-- the values of a slip of a sound form fit their fields
+pub slip-fits : (form : Form) → Sound form → (s : Slip) → isSlipIn form s ≡ true → Fits (form .widths) s
+slip-fits form sound s e =
+    let w = form .widths in
+    let h = six (saysIn (form .sayings) (s .kind) (s .status) (s .check)) (leb (s .seat) (form .seats - 1))
+    (leb 1 (s .opening)) (leb (s .opening) openings) (leb 1 (s .step)) (leb (s .step) steps) e in
+    let said = of-sayings (sayingFits w) (form .sayings) (sound .said) (s .kind) (s .status) (s .check) (h .0) in
+    let pair = and-left (ltb (s .kind) (2 ^ w .kind) && ltb (s .status) (2 ^ w .status)) (ltb (s .check) (2 ^ w .check)) said in
+    let last = and-right (ltb (s .kind) (2 ^ w .kind) && ltb (s .status) (2 ^ w .status)) (ltb (s .check) (2 ^ w .check)) said in
+    let seat : s .seat ≤ form .seats - 1 = leb-true (s .seat) (form .seats - 1) (h .1) in
+    let opening : s .opening ≤ openings = leb-true (s .opening) openings (h .2) in
+    let step : s .step ≤ steps = leb-true (s .step) steps (h .3) in
+    record {
+      kind = ltb-true (s .kind) (2 ^ w .kind) (and-left (ltb (s .kind) (2 ^ w .kind)) (ltb (s .status) (2 ^ w .status)) pair);
+      status = ltb-true (s .status) (2 ^ w .status) (and-right (ltb (s .kind) (2 ^ w .kind)) (ltb (s .status) (2 ^ w .status)) pair);
+      check = ltb-true (s .check) (2 ^ w .check) last;
+      seat = omega (arith, sound .seat);
+      opening = omega (arith, sound .opening);
+      step = omega (arith, sound .step);
+    }
+
+spare-small : (n : ℕ) → Small (spareFields n)
+spare-small zero = tt
+spare-small (suc n) = (pow-pos (suc n), tt)
+
+-- and so do all fields
+pub fields-small : (form : Form) (s : Slip) → Fits (form .widths) s → Small (fieldsIn form s)
+fields-small form s f = (f .kind, (f .status, (f .check, (f .seat, (f .opening, (f .step, spare-small (form .spare)))))))
+
+-- the values of a five-byte slip fit their fields
 pub slip-small : (s : Slip) → isSlip s ≡ true → Small (fieldsOf s)
 unfolding isSlip fieldsOf
-slip-small s e =
-    let h = six (says (s .kind) (s .status) (s .check)) (leb (s .seat) (seats - 1)) (leb 1 (s .opening)) (leb (s .opening) openings) (leb 1 (s .step)) (leb (s .step) steps) e in
-    let front = says-small (s .kind) (s .status) (s .check) (h .0) in
-    let seat = leb-true (s .seat) (seats - 1) (h .1) in
-    let opening = leb-true (s .opening) openings (h .2) in
-    let step = leb-true (s .step) steps (h .3) in
-    (omega arith, (omega arith, (omega arith, (omega arith, (omega arith, (omega arith, tt))))))
+slip-small s e = fields-small fiveBytes s (slip-fits fiveBytes five-sound s e)

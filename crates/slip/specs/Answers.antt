@@ -1,31 +1,41 @@
--- What writing and reading a slip answer and leave behind: calls that know refusal 11 alone.
+-- What writing and reading a slip answer and leave: calls that know refusal 11 alone.
 use mathlib.Core.Bool.{Bool, _&&_, cond}
 use mathlib.Core.List.{List, _++_}
 use Prim.Native.Nat.{ℕ}
-use lib.Dec.{leb, eqb}
+use lib.Dec.{leb, ltb, eqb}
 use lib.ListN.{length, drop}
 use Rattle.slip.specs.declared.Slip.{Slip}
 use Rattle.slip.specs.declared.Writing.{Writing}
 use Rattle.slip.specs.declared.Writing.the-variants.{Written, NotWritten}
 use Rattle.slip.specs.declared.Reading.{Reading}
 use Rattle.slip.specs.declared.Reading.the-variants.{Holds, NoSlip}
-use Rattle.slip.specs.Meaning.{isSlip}
-use Rattle.slip.specs.Image.{image, slipOf}
+use Rattle.slip.specs.Meaning.{slipLong, Form, isSlipIn, isSlip}
+use Rattle.slip.specs.Image.{heldIn, spareZero, bytesNumber, image, slipOf}
+
+-- the slip buffer is too short
+abbrev pub bufferShort : List ℕ → Bool
+bufferShort buffer = ltb (length buffer) slipLong
 
 -- a slip can be written: the buffer has five bytes or more, and the values are a slip's
 unfoldable pub canWrite : Slip → List ℕ → Bool
-canWrite s buffer = leb 5 (length buffer) && isSlip s
+canWrite s buffer = leb slipLong (length buffer) && isSlip s
 
 unfoldable pub writeAnswer : Slip → List ℕ → Writing
 writeAnswer s buffer = cond (canWrite s buffer) Written NotWritten
 
 -- the buffer then: the slip in the first five bytes, the rest as it was; on a refusal all as it was
 unfoldable pub writeAfter : Slip → List ℕ → List ℕ
-writeAfter s buffer = cond (canWrite s buffer) (image s ++ drop 5 buffer) buffer
+writeAfter s buffer = cond (canWrite s buffer) (image s ++ drop slipLong buffer) buffer
 
--- the bytes are a slip: exactly five, and their values are a slip's
+-- the bytes are a slip of a form: exactly as many as it has, the bits after the values zero, and the values a slip's
+abbrev pub holdsIn : Form → List ℕ → Bool
+holdsIn form bytes =
+    let n = bytesNumber bytes in
+    eqb (length bytes) (form .long) && (spareZero form n && isSlipIn form (heldIn form n))
+
+-- the bytes are a slip of five bytes, after which no bits stand
 unfoldable pub holdsSlip : List ℕ → Bool
-holdsSlip bytes = eqb (length bytes) 5 && isSlip (slipOf bytes)
+holdsSlip bytes = eqb (length bytes) slipLong && isSlip (slipOf bytes)
 
 unfoldable pub readAnswer : List ℕ → Reading
 readAnswer bytes = cond (holdsSlip bytes) (Holds (slipOf bytes)) NoSlip

@@ -1,42 +1,100 @@
--- The 40 bits of a slip, most significant first, and the five bytes that hold them.
+-- The bits of a slip, most significant first, and the bytes that hold them: document 01, "The slip". Said of any form, and then of the five-byte
+-- form, whose 40 bits are the values alone.
+use mathlib.Core.Bool.{Bool}
 use mathlib.Core.List.{List, [], _∷_, map}
-use Prim.Native.Nat.{ℕ}
-use lib.ListN.{getD}
+use Prim.Native.Nat.{ℕ, zero, suc, _<_, _^_}
+use lib.Dec.{eqb}
+use lib.ListN.{getD, replicate}
 use Rattle.shape.specs.Bits.{joined, cut}
+use Rattle.shape.specs.Bytes.{every}
 use Rattle.slip.specs.declared.Slip.{Slip}
+use Rattle.slip.specs.Meaning.{slipLong, Widths, Form, fiveBytes}
 
--- the six fields, each with its width: kind 3, status 2, check 6, seat 3, opening 16, step 10
-unfoldable pub fieldsOf : Slip → List (ℕ × ℕ)
-fieldsOf s =
-    (3, s .kind) ∷ (2, s .status) ∷ (6, s .check) ∷ (3, s .seat) ∷ (16, s .opening) ∷ (10, s .step) ∷ []
-
-abbrev pub fieldWidths : List ℕ
-fieldWidths = 3 ∷ 2 ∷ 6 ∷ 3 ∷ 16 ∷ 10 ∷ []
-
--- a byte is a field of width 8
-abbrev pub byteWidths : List ℕ
-byteWidths = 8 ∷ 8 ∷ 8 ∷ 8 ∷ 8 ∷ []
+-- a byte is a field of eight bits
+abbrev pub byteWide : ℕ
+byteWide = 8
 
 abbrev pub byteFields : List ℕ → List (ℕ × ℕ)
-byteFields = map {B = ℕ × ℕ} (λ (b : ℕ). (8, b))
+byteFields = map {B = ℕ × ℕ} (λ (b : ℕ). (byteWide, b))
 
 abbrev pub values : List (ℕ × ℕ) → List ℕ
 values = map (λ (f : ℕ × ℕ). f .1)
 
--- the slip as one number
+-- the zero bits after the values are one more field, where there are any
+abbrev pub spareWidths : ℕ → List ℕ
+spareWidths zero = []
+spareWidths (suc n) = suc n ∷ []
+
+abbrev pub spareFields : ℕ → List (ℕ × ℕ)
+spareFields n = map {B = ℕ × ℕ} (λ (w : ℕ). (w, 0)) (spareWidths n)
+
+-- the widths of the fields, and the fields of a slip
+abbrev pub widthsIn : Form → List ℕ
+widthsIn form =
+    let w = form .widths in
+    w .kind ∷ w .status ∷ w .check ∷ w .seat ∷ w .opening ∷ w .step ∷ spareWidths (form .spare)
+
+abbrev pub fieldsIn : Form → Slip → List (ℕ × ℕ)
+fieldsIn form s =
+    let w = form .widths in
+    (w .kind, s .kind)
+    ∷ (w .status, s .status)
+    ∷ (w .check, s .check)
+    ∷ (w .seat, s .seat)
+    ∷ (w .opening, s .opening)
+    ∷ (w .step, s .step)
+    ∷ spareFields (form .spare)
+
+-- each value fits its field, which the code that joins them asks for
+pub record Fits (w : Widths) (s : Slip) : Type 0 where
+  pub kind : s .kind < 2 ^ w .kind
+  pub status : s .status < 2 ^ w .status
+  pub check : s .check < 2 ^ w .check
+  pub seat : s .seat < 2 ^ w .seat
+  pub opening : s .opening < 2 ^ w .opening
+  pub step : s .step < 2 ^ w .step
+
+-- the slip as one number, a number's bytes, and so the bytes of a slip
+abbrev pub numberIn : Form → Slip → ℕ
+numberIn form s = joined 0 (fieldsIn form s)
+
+abbrev pub bytesIn : Form → ℕ → List ℕ
+bytesIn form n = values (cut (replicate (form .long) byteWide) n)
+
+abbrev pub imageIn : Form → Slip → List ℕ
+imageIn form s = bytesIn form (numberIn form s)
+
+-- the six values that a number holds
+abbrev pub slipFrom : List ℕ → Slip
+slipFrom vs =
+    record { kind = getD vs 0 0; status = getD vs 1 0; check = getD vs 2 0; seat = getD vs 3 0; opening = getD vs 4 0; step = getD vs 5 0 }
+
+abbrev pub heldIn : Form → ℕ → Slip
+heldIn form n = slipFrom (values (cut (widthsIn form) n))
+
+-- its bits after the values are zero
+abbrev pub spareZero : Form → ℕ → Bool
+spareZero form n = every (λ (v : ℕ). eqb v 0) (values (cut (spareWidths (form .spare)) n))
+
+-- bytes as one number
+abbrev pub bytesNumber : List ℕ → ℕ
+bytesNumber bytes = joined 0 (byteFields bytes)
+
+-- of the five-byte form: the fields, the number, the bytes, and the values that a number of 40 bits and that bytes hold
+unfoldable pub fieldsOf : Slip → List (ℕ × ℕ)
+fieldsOf = fieldsIn fiveBytes
+
 unfoldable pub slipNumber : Slip → ℕ
 slipNumber s = joined 0 (fieldsOf s)
 
--- the five bytes of a slip
+abbrev pub byteWidths : List ℕ
+byteWidths = replicate slipLong byteWide
+
 unfoldable pub image : Slip → List ℕ
-image s = values (cut byteWidths (slipNumber s))
+image s = bytesIn fiveBytes (slipNumber s)
 
--- the six values that a number of 40 bits holds
 unfoldable pub slipIn : ℕ → Slip
-slipIn n =
-    let vs = values (cut fieldWidths n) in
-    record { kind = getD vs 0 0; status = getD vs 1 0; check = getD vs 2 0; seat = getD vs 3 0; opening = getD vs 4 0; step = getD vs 5 0 }
+slipIn = heldIn fiveBytes
 
--- the six values that bytes hold
 unfoldable pub slipOf : List ℕ → Slip
-slipOf s = slipIn (joined 0 (byteFields s))
+slipOf bytes = slipIn (bytesNumber bytes)

@@ -1,50 +1,31 @@
--- Each return rewrites with the tests that led there.
+-- The code is the table, line by line; no line has a check past the last one.
 use mathlib.Core.Path.{sym, _∙_}
 use borrow.Author.Needs.{needs}
-use borrow.Author.Tests.{ne-eqb}
-use Rattle.slip.specs.Meaning.{kindNumber, says}
-use Rattle.slip.proofs.Meanings.{says-paid, says-moved, says-pending, says-told}
+use Rattle.slip.proofs.Meanings.{lines, says-lines, none-above}
 use Rattle.slip.proofs.can_say.Statement.{statement}
 use Rattle.slip.proofs.can_say.Tie as tie
 
-can-end-requires : tie.Need-can-end-requires
-can-end-requires c κs = search needs
-
 returns : tie.Need-returns
-returns c = c .can-end .ensures ∙ sym (says-paid _ _ _ (c .before .if1 .taken))
+returns c = sym (none-above _ _ _ (c .if1 .taken))
 
-can-end-requires-2 : tie.Need-can-end-requires-2
-can-end-requires-2 c κs = search needs
+of-pacs-008-requires : tie.Need-of-pacs-008-requires
+of-pacs-008-requires c κs = search needs
+
+of-camt-050-requires : tie.Need-of-camt-050-requires
+of-camt-050-requires c κs = search needs
+
+of-pacs-028-requires : tie.Need-of-pacs-028-requires
+of-pacs-028-requires c κs = search needs
 
 returns-2 : tie.Need-returns-2
-returns-2 c = c .can-end2 .ensures ∙ sym (says-moved _ _ _ (c .before .if2 .taken))
-
-returns-3 : tie.Need-returns-3
-unfolding says kindNumber
-returns-3 c = rw (ne-eqb _ _ (c .before .before .if1 .left), ne-eqb _ _ (c .before .if2 .left), ne-eqb _ _ (c .if3 .taken))
-
-can-appear-requires : tie.Need-can-appear-requires
-can-appear-requires c κs = search needs
-
-returns-4 : tie.Need-returns-4
-returns-4 c = c .can-appear .ensures ∙ sym (says-pending _ _ _ (c .before .before .if3 .left) (c .before .if4 .taken))
-
-can-end-requires-3 : tie.Need-can-end-requires-3
-can-end-requires-3 c κs = search needs
-
-returns-5 : tie.Need-returns-5
-returns-5 c = c .can-end3 .ensures ∙ sym (says-told _ _ _ (c .before .before .if3 .left) (c .before .if4 .left))
+unfolding lines
+returns-2 c =
+    let at = c .before .before .before .before .args in
+    (λ i.
+    lines (at .kind) (at .status) (at .check) (c .before .before .of-pacs-008 .ensures i) (c .before .of-camt-050 .ensures i)
+    (c .of-pacs-028 .ensures i))
+    ∙ sym (says-lines (at .kind) (at .status) (at .check))
 
 pub can-say-spec : {M : Type 1} → statement M
 can-say-spec =
-    tie.close
-    (tie.spec
-    can-end-requires
-    returns
-    can-end-requires-2
-    returns-2
-    returns-3
-    can-appear-requires
-    returns-4
-    can-end-requires-3
-    returns-5)
+    tie.close (tie.spec returns of-pacs-008-requires of-camt-050-requires of-pacs-028-requires returns-2)

@@ -17,23 +17,23 @@ mul-front-2 c = search needs
 add-front-2 : tie.Need-add-front-2
 add-front-2 c = search needs
 
+mul-middle : tie.Need-mul-middle
+mul-middle c = search needs
+
+add-middle : tie.Need-add-middle
+add-middle c = search needs
+
+mul-middle-2 : tie.Need-mul-middle-2
+mul-middle-2 c = search needs
+
+add-middle-2 : tie.Need-add-middle-2
+add-middle-2 c = search needs
+
 mul-result : tie.Need-mul-result
 mul-result c = search needs
 
 add-result : tie.Need-add-result
 add-result c = search needs
-
-mul-result-2 : tie.Need-mul-result-2
-mul-result-2 c = search needs
-
-add-result-2 : tie.Need-add-result-2
-add-result-2 c = search needs
-
-mul-result-3 : tie.Need-mul-result-3
-mul-result-3 c = search needs
-
-add-result-3 : tie.Need-add-result-3
-add-result-3 c = search needs
 
 returns : tie.Need-returns
 unfolding slipNumber fieldsOf
@@ -47,10 +47,10 @@ number-of-spec =
     add-front
     mul-front-2
     add-front-2
+    mul-middle
+    add-middle
+    mul-middle-2
+    add-middle-2
     mul-result
     add-result
-    mul-result-2
-    add-result-2
-    mul-result-3
-    add-result-3
     returns)

@@ -3,9 +3,9 @@ use mathlib.Core.Path.{_≡_, refl, sym, _∙_}
 use native.Mathlib.Omega.{arith}
 use lib.ListN.{length, length-set}
 use borrow.Author.Tests.{le-leb, lt-leb, not-true, not-false}
-use Rattle.slip.specs.Image.{fieldsOf}
+use Rattle.slip.specs.Meaning.{slipLong, fiveBytes, isSlip}
 use Rattle.slip.specs.Answers.{canWrite, writeAnswer, writeAfter}
-use Rattle.slip.proofs.Small.{slip-small}
+use Rattle.slip.proofs.Small.{five-sound, slip-fits}
 use Rattle.slip.proofs.Bytes.{stored}
 use borrow.Author.Needs.{needs}
 use Rattle.slip.proofs.write.Statement.{statement}
@@ -13,18 +13,30 @@ use Rattle.slip.proofs.write.Tie as tie
 
 returns : tie.Need-returns
 unfolding writeAnswer writeAfter canWrite
-returns c = rw (lt-leb 5 (length (c .before .before .args .buffer .now)) (c .if1 .taken)) (refl, refl)
+returns c = rw (lt-leb slipLong (length (c .before .before .args .buffer .now)) (c .if1 .taken)) (refl, refl)
 
 is-slip-requires : tie.Need-is-slip-requires
 is-slip-requires c κs = search needs
 
 returns-2 : tie.Need-returns-2
 unfolding writeAnswer writeAfter canWrite
-returns-2 c = rw (le-leb 5 (length (c .before .before .before .before .args .buffer .now)) (c .before .before .if1 .left), sym (c .before .is-slip .ensures) ∙ not-true _ (c .if2 .taken)) (refl, refl)
+returns-2 c =
+    rw (
+      le-leb slipLong (length (c .before .before .before .before .args .buffer .now)) (c .before .before .if1 .left),
+      sym (c .before .is-slip .ensures) ∙ not-true _ (c .if2 .taken),
+    )
+    (refl, refl)
 
 number-of-requires : tie.Need-number-of-requires
-unfolding fieldsOf
-number-of-requires c κs = let h = slip-small (c .before .before .before .before .args .s) (sym (c .before .is-slip .ensures) ∙ not-false _ (c .if2 .left)) in (h .0, h .1 .0, h .1 .1 .0, h .1 .1 .1 .0, h .1 .1 .1 .1 .0, h .1 .1 .1 .1 .1 .0)
+unfolding isSlip
+number-of-requires c κs =
+    slip-fits fiveBytes five-sound (c .before .before .before .before .args .s) (sym (c .before .is-slip .ensures) ∙ not-false _ (c .if2 .left))
+
+mul-buffer : tie.Need-mul-buffer
+mul-buffer c = search needs
+
+shr-buffer : tie.Need-shr-buffer
+shr-buffer c = search needs
 
 cast-buffer : tie.Need-cast-buffer
 cast-buffer c = search needs
@@ -32,11 +44,23 @@ cast-buffer c = search needs
 slice-write-buffer : tie.Need-slice-write-buffer
 slice-write-buffer c = search needs
 
+mul-buffer-2 : tie.Need-mul-buffer-2
+mul-buffer-2 c = search needs
+
+shr-buffer-2 : tie.Need-shr-buffer-2
+shr-buffer-2 c = search needs
+
 cast-buffer-2 : tie.Need-cast-buffer-2
 cast-buffer-2 c = search needs
 
 slice-write-buffer-2 : tie.Need-slice-write-buffer-2
 slice-write-buffer-2 c = simp length-set (omega arith)
+
+mul-buffer-3 : tie.Need-mul-buffer-3
+mul-buffer-3 c = search needs
+
+shr-buffer-3 : tie.Need-shr-buffer-3
+shr-buffer-3 c = search needs
 
 cast-buffer-3 : tie.Need-cast-buffer-3
 cast-buffer-3 c = search needs
@@ -54,14 +78,21 @@ cast-buffer-5 : tie.Need-cast-buffer-5
 cast-buffer-5 c = search needs
 
 slice-write-buffer-5 : tie.Need-slice-write-buffer-5
-slice-write-buffer-5 c = simp length-set (omega arith)
+slice-write-buffer-5 c = search needs
 
 same-length : tie.Need-same-length
 same-length c = search needs
 
 returns-3 : tie.Need-returns-3
 unfolding writeAnswer writeAfter canWrite
-returns-3 c = rw (le-leb 5 (length (c .before .before .before .before .before .args .buffer .now)) (c .before .before .before .if1 .left), sym (c .before .before .is-slip .ensures) ∙ not-false _ (c .before .if2 .left)) (refl, stored (c .before .before .before .before .before .args .s) (c .before .before .before .before .before .args .buffer .now) (c .number-of .result) (c .number-of .ensures) (c .before .before .before .if1 .left))
+returns-3 c =
+    let at = c .before .before .before .before .before .args in
+    let long = c .before .before .before .if1 .left in
+    rw (
+      le-leb slipLong (length (at .buffer .now)) long,
+      sym (c .before .before .is-slip .ensures) ∙ not-false _ (c .before .if2 .left),
+    )
+    (refl, stored (at .s) (at .buffer .now) (c .number-of .result) (c .number-of .ensures) long)
 
 pub write-spec : {M : Type 1} → statement M
 write-spec =
@@ -71,10 +102,16 @@ write-spec =
     is-slip-requires
     returns-2
     number-of-requires
+    mul-buffer
+    shr-buffer
     cast-buffer
     slice-write-buffer
+    mul-buffer-2
+    shr-buffer-2
     cast-buffer-2
     slice-write-buffer-2
+    mul-buffer-3
+    shr-buffer-3
     cast-buffer-3
     slice-write-buffer-3
     cast-buffer-4
