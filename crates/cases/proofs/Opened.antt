@@ -11,7 +11,7 @@ use Rattle.remainder.specs.Remainder.{isPlain, whole, remainderOf, written}
 use Rattle.table.specs.Checks.{orderOf}
 use Rattle.slip.specs.Answers.{writeAfter, canWrite, holdsSlip}
 use Rattle.slip.specs.Image.{slipOf as slipSlipOf, slipIn, slipNumber, image, fieldsOf as slipFieldsOf}
-use Rattle.slip.specs.Meaning.{says, isSlip, appears, endsWith, kindNumber, statusNumber}
+use Rattle.slip.specs.Meaning.{sayings, isSlip, kindNumber, statusNumber}
 use Rattle.sheet.specs.Answer.{run, readingOf}
 use Rattle.sheet.specs.Grammar.{isNameByte}
 use Rattle.sheet.specs.Machine.{step}
@@ -56,7 +56,7 @@ unfolding orderOf
 table-opened = tt
 
 unfoldable pub slip-opened : Unit {0}
-unfolding writeAfter canWrite holdsSlip slipSlipOf slipIn slipNumber image slipFieldsOf says isSlip appears endsWith kindNumber statusNumber
+unfolding writeAfter canWrite holdsSlip slipSlipOf slipIn slipNumber image slipFieldsOf sayings isSlip kindNumber statusNumber
 slip-opened = tt
 
 unfoldable pub sheet-opened : Unit {0}

@@ -17,7 +17,7 @@ use Rattle.shape.specs.declared.stored.Identifier.{Identifier}
 use Rattle.shape.specs.declared.stored.Text.{Text}
 use Rattle.shape.proofs.Tests.{and-left, and-right}
 use Rattle.shape.proofs.ReadBack.{identifier-back, identifier-same, text-short, text-front, stored-version, stored-variant}
-use Rattle.slip.specs.Meaning.{kindNumber, says}
+use Rattle.slip.specs.Meaning.{kindNumber, sayings, says}
 use Rattle.directory.specs.Directory.{codeMost}
 use Rattle.layout.specs.declared.rows.Settings.{Settings}
 use Rattle.layout.specs.declared.rows.Step.{Step}
@@ -66,7 +66,7 @@ uetr-fits s e = rw (stored-version s e, stored-variant s e)
 
 -- no step is none that fits
 pub no-step-unfit : stepFits noStep ≡ false
-unfolding stepFits messageFits says kindNumber
+unfolding stepFits messageFits sayings kindNumber
 no-step-unfit = refl
 
 -- a set that fits, part by part

@@ -1,7 +1,7 @@
 -- What becomes of a message can be said of its kind: a transfer ends with 0 or with a check that appears, and a pacs.028 with its own check or
 -- as the payment that it asks after did, which is a fit step of the journal.
 -- Assumes nothing.
-use mathlib.Core.Path.{_≡_, refl, sym, subst}
+use mathlib.Core.Path.{_≡_, refl, sym, subst, _∙_}
 use mathlib.Core.Bool.{Bool, true, false, _&&_, _||_, cond, false≢true}
 use mathlib.Core.List.{List}
 use Prim.Native.Nat.{ℕ}
@@ -15,7 +15,8 @@ use Rattle.table.specs.declared.Kind.{Kind}
 use Rattle.table.specs.declared.Kind.the-variants.{Pacs008, Camt050, Pacs028}
 use Rattle.table.specs.Checks.{orderOf, runs}
 use Rattle.slip.specs.declared.Status.the-variants.{Accc}
-use Rattle.slip.specs.Meaning.{kindNumber, statusNumber, appears, endsWith, says}
+use Rattle.slip.specs.Meaning.{kindNumber, statusNumber, says}
+use Rattle.slip.proofs.Orders.{appears, endsWith, saysByOrder, says-by-order}
 use Rattle.directory.specs.Directory.{codeMost}
 use Rattle.layout.specs.declared.rows.Step.{Step}
 use Rattle.journal.specs.declared.traces.Trace.the-variants.{Payment}
@@ -47,11 +48,11 @@ transferred-ends kind check shown = go (eqb check 0) refl
 
 -- a pacs.028 tells of its own check, or how a payment ended
 abbrev Told : Outcome → Type 0
-Told o = says 3 (o .status) (o .check) ≡ true
+Told o = saysByOrder 3 (o .status) (o .check) ≡ true
 
 answered-told : (check : ℕ) (x : Earlier) → ((check ≡ 0 → ⊥) → appears Pacs028 check ≡ true) → (check ≡ 0 → Ends Pacs008 (toldOf x))
     → Told (answered check x)
-unfolding says answered statusNumber kindNumber
+unfolding saysByOrder answered statusNumber kindNumber
 answered-told check x shown told = go (eqb check 0) refl
   where
     go : (t : Bool) → eqb check 0 ≡ t → Told (cond t (toldOf x) (record { status = 0; check = check }))
@@ -63,8 +64,8 @@ answered-told check x shown told = go (eqb check 0) refl
 -- so each kind can say how its message ends
 end-says : (kind : Kind) (check : ℕ) (x : Earlier) → ((check ≡ 0 → ⊥) → appears kind check ≡ true)
     → (kind ≡ Pacs028 → check ≡ 0 → Ends Pacs008 (toldOf x))
-    → says (kindNumber kind) (endOf kind check x .status) (endOf kind check x .check) ≡ true
-unfolding says kindNumber endOf
+    → saysByOrder (kindNumber kind) (endOf kind check x .status) (endOf kind check x .check) ≡ true
+unfolding saysByOrder kindNumber endOf
 end-says Pacs008 check x shown told =
     let o : Outcome = transferred check in
     or-left (endsWith Pacs008 (o .status) (o .check) || false) false
@@ -76,10 +77,10 @@ end-says Pacs028 check x shown told = answered-told check x shown (told refl)
 
 -- a fit step that is a pacs.008 ended as a pacs.008 can
 payment-ends : (x : Step) → stepFits x ≡ true → isKind 1 x ≡ true → endsWith Pacs008 (x .status) (x .check) ≡ true
-unfolding stepFits messageFits says kindNumber
+unfolding stepFits messageFits saysByOrder kindNumber
 payment-ends x fit first =
     alone (endsWith Pacs008 (x .status) (x .check))
-    (subst (λ (k : ℕ). says k (x .status) (x .check) ≡ true) same
+    (sym (says-by-order 1 (x .status) (x .check)) ∙ subst (λ (k : ℕ). says k (x .status) (x .check) ≡ true) same
     (front (says (x .kind) (x .status) (x .check)) (leb (x .sender) codeMost) (isStored (x .id)) (isStoredUetr (x .uetr)) (isTime (x .created))
     (referenceFits x) (movementFits x) (noSet x)
     (subst (λ (k : ℕ). cond (eqb k setKind) (setFits x) (messageFits x) ≡ true) same fit)))
@@ -118,7 +119,8 @@ pub outcome-says : (c : Case) (s : List ℕ) → openFits s ≡ true → (verdic
     → says (kindNumber (c .message .kind)) (outcome c s .status) (outcome c s .check) ≡ true
 unfolding outcome
 outcome-says c s fit one two =
-    end-says (c .message .kind) (verdict c s) (askedAfter c s)
+    says-by-order (kindNumber (c .message .kind)) (outcome c s .status) (outcome c s .check)
+    ∙ end-says (c .message .kind) (verdict c s) (askedAfter c s)
     (λ (some : verdict c s ≡ 0 → ⊥). verdict-appears c s some one two)
     (λ (same : c .message .kind ≡ Pacs028). λ (none : verdict c s ≡ 0). asked-ends c s fit (original-there c s none same))
 

@@ -10,8 +10,7 @@ use Rattle.shape.proofs.Tests.{or-cases, or-left, or-right}
 use Rattle.table.specs.declared.Kind.{Kind}
 use Rattle.table.specs.declared.Kind.the-variants.{Pacs008, Camt050, Pacs028}
 use Rattle.table.specs.Checks.{orderOf, isIn, runs}
-use Rattle.slip.specs.Meaning.{appears}
-use Rattle.slip.proofs.Meanings.{appears-in-order}
+use Rattle.slip.proofs.Orders.{appears, appears-in-order}
 use Rattle.judge.specs.declared.case.Case.{Case}
 use Rattle.judge.specs.Verdict.{fails, firstFailing, verdict}
 
