@@ -5,17 +5,22 @@ use Prim.Native.Nat.{ℕ, suc, _+_, _*_, _%_}
 use lib.Dec.{leb, ltb, eqb}
 use lib.ListN.{getD, set, replicate}
 use Rattle.shape.specs.Bytes.{isDigit}
+use Rattle.slip.specs.Meaning.{slipLong}
 use Rattle.class.specs.declared.digits.Ink.{Ink}
+
+-- how many digits a slip has, two for each byte
+abbrev pub slipDigits : ℕ
+slipDigits = 2 * slipLong
 
 -- the bytes of a text that are no blanks: the first ten in their places, and how many there are; behind an eleventh nothing changes
 abbrev pub noInk : Ink
-noInk = record { count = 0; bytes = replicate 10 0 }
+noInk = record { count = 0; bytes = replicate slipDigits 0 }
 
 abbrev pub inkedAt : Ink → ℕ → Ink
-inkedAt ink b = record { count = suc (ink .count); bytes = cond (ltb (ink .count) 10) (set (ink .bytes) (ink .count) b) (ink .bytes) }
+inkedAt ink b = record { count = suc (ink .count); bytes = cond (ltb (ink .count) slipDigits) (set (ink .bytes) (ink .count) b) (ink .bytes) }
 
 unfoldable pub inked : Ink → ℕ → Ink
-inked ink b = cond (leb b 32) ink (cond (ltb 10 (ink .count)) ink (inkedAt ink b))
+inked ink b = cond (leb b 32) ink (cond (ltb slipDigits (ink .count)) ink (inkedAt ink b))
 
 unfoldable pub inkedFrom : Ink → List ℕ → Ink
 inkedFrom ink [] = ink
@@ -34,7 +39,7 @@ hexAt ink k = isHexDigit (getD (ink .bytes) k 0)
 -- ten digits and nothing else
 unfoldable pub tenDigits : Ink → Bool
 tenDigits ink =
-    ((((((((((eqb (ink .count) 10 && hexAt ink 0) && hexAt ink 1) && hexAt ink 2) && hexAt ink 3) && hexAt ink 4) && hexAt ink 5)
+    ((((((((((eqb (ink .count) slipDigits && hexAt ink 0) && hexAt ink 1) && hexAt ink 2) && hexAt ink 3) && hexAt ink 4) && hexAt ink 5)
     && hexAt ink 6) && hexAt ink 7) && hexAt ink 8) && hexAt ink 9)
 
 -- what a digit stands for: letters are 1 to 6 behind a multiple of sixteen

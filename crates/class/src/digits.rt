@@ -1,16 +1,17 @@
 // The bytes of a slip, written as hexadecimal digits in small letters or capitals. Blanks may stand anywhere between them.
 use shape::byte::is_digit;
+use slip::SLIP_LONG;
 ghost use mathlib.Core.Path.{_≡_};
 ghost use Rattle.class.specs.Digits.{isHexDigit, digitOf, byteOf, noInk, inked, inkIn, tenDigits, fiveBytes};
 
-// How many digits a slip has.
-const DIGITS: usize = 10;
+// How many digits a slip has, two for each byte.
+const DIGITS: usize = 2 * SLIP_LONG;
 
 // The bytes of a text that are no blanks: the first ten, and how many there are. An eleventh is counted, so that the text is seen to be too
 // long; behind it nothing changes any more.
 pub struct Ink {
     pub count: usize,
-    pub bytes: [u8; 10],
+    pub bytes: [u8; DIGITS],
 }
 
 fn no_ink() -> Ink
@@ -97,7 +98,7 @@ fn byte(high: u8, low: u8) -> u8
 }
 
 // The five bytes that ten digits write.
-pub fn five_bytes(ink: Ink) -> [u8; 5]
+pub fn five_bytes(ink: Ink) -> [u8; SLIP_LONG]
     ensures { λ r. ⌜ r ≡ fiveBytes ink ⌝ }
 {
     let s = ink.bytes;

@@ -7,8 +7,12 @@ use crate::words::word_end;
 use check::same;
 use libc::STDOUT_FILENO;
 use slip::Reading;
+use slip::SLIP_LONG;
 use slip::Slip;
 use slip::Writing;
+
+// What writing is given: the bytes of a slip, and two after them that it must leave.
+const BUFFER_LONG: usize = SLIP_LONG + 2;
 
 // Bytes that a text of hexadecimal digits writes, at most eight.
 struct Few {
@@ -76,16 +80,16 @@ fn put_byte(b: u8) {
     io::print_hex(STDOUT_FILENO, b as u64, 2);
 }
 
-// Writes into a buffer of seven bytes, so that the two behind the slip are shown too.
+// Writes into a buffer that is longer than a slip, and shows all of it.
 fn write(text: &[u8]) {
-    let mut buffer = *b"\xee\xee\xee\xee\xee\xee\xee";
+    let mut buffer = [0xeeu8; BUFFER_LONG];
     match slip::write(slip_in(text), &mut buffer) {
         Writing::Written => put(b" 0"),
         Writing::NotWritten => put(b" 11"),
     }
     put(b" ");
     let mut i = 0;
-    while i < 7 {
+    while i < BUFFER_LONG {
         put_byte(buffer[i]);
         i += 1;
     }
