@@ -13,8 +13,8 @@ use lib.Seq.{drop-cons}
 use borrow.Author.Tests.{eqb-true, eqb-false, eq-eqb, ne-eqb}
 use Rattle.shape.proofs.Tests.{and-false}
 use Rattle.outline.specs.Paths.{sameName}
-use Rattle.paths.specs.Tree.{names, firsts, beforeBlank, nameOf, nowhere, namedFrom, childOf}
-use Rattle.paths.proofs.Table.{line-long, line-ends}
+use Rattle.paths.specs.Tree.{nodes, nameWide, names, firsts, beforeBlank, nameOf, nowhere, namedFrom, childOf}
+use Rattle.paths.proofs.Table.{nameEnd, line-long, line-ends}
 
 -- one byte of the line and one of the name
 none-before : (x b : ℕ) (l n : List ℕ) → eqb x 32 ≡ true → sameName (beforeBlank (x ∷ l)) (b ∷ n) ≡ false
@@ -41,9 +41,9 @@ too-long (x ∷ l) (b ∷ name) (suc j) h e k = go (eqb x 32) refl (too-long l n
     go true f r = none-before x b l name f
     go false f r = one-before x b l name f ∙ and-false (eqb x b) (sameName (beforeBlank l) name) r
 
-pub name-too-long : (v : ℕ) (name : List ℕ) → v < 73 → 17 < length name → sameName (nameOf v) name ≡ false
+pub name-too-long : (v : ℕ) (name : List ℕ) → v < nodes → nameWide ≤ length name → sameName (nameOf v) name ≡ false
 unfolding nameOf
-name-too-long v name h k = too-long (getD names v []) name 17 (omega (arith, line-long v h)) (line-ends v h) k
+name-too-long v name h k = too-long (getD names v []) name nameEnd (omega (arith, line-long v h)) (line-ends v h) (omega arith)
 
 -- a byte that differs, or a blank, which is in no name
 differs : (x b : ℕ) (l n : List ℕ) (t u : Bool) → eqb x b ≡ t → eqb b 32 ≡ u → (not t || u) ≡ true → sameName (beforeBlank (x ∷ l)) (b ∷ n) ≡ false

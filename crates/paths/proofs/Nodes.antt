@@ -11,25 +11,25 @@ use lib.ListN.{getD}
 use borrow.Author.Tests.{ltb-true, ltb-false}
 use Rattle.outline.specs.Paths.{sameName}
 use Rattle.outline.proofs.Paths.{same-name}
-use Rattle.paths.specs.Tree.{nowhere, firsts, nameOf, namedFrom, childOf, nodeOf}
+use Rattle.paths.specs.Tree.{nowhere, nodes, firsts, nameOf, namedFrom, childOf, nodeOf}
 use Rattle.paths.proofs.Table.{firsts-ascend, firsts-from, firsts-low}
 
-named-below : (a n : ℕ) (name : List ℕ) → a + n ≤ 73 → namedFrom a n name < 73
+named-below : (a n : ℕ) (name : List ℕ) → a + n ≤ nodes → namedFrom a n name < nodes
 named-below a zero name h = omega arith
 named-below a (suc n) name h = go (sameName (nameOf a) name) (named-below (suc a) n name (omega arith))
   where
-    go : (t : Bool) → namedFrom (suc a) n name < 73 → cond t a (namedFrom (suc a) n name) < 73
+    go : (t : Bool) → namedFrom (suc a) n name < nodes → cond t a (namedFrom (suc a) n name) < nodes
     go true r = omega arith
     go false r = r
 
-child-below : (v : ℕ) (name : List ℕ) → v < 73 → childOf v name < 73
+child-below : (v : ℕ) (name : List ℕ) → v < nodes → childOf v name < nodes
 unfolding childOf
 child-below v name h =
     named-below (getD firsts v 0) (getD firsts (suc v) 0 - getD firsts v 0) name
     (omega (arith, firsts-low v (omega arith), firsts-low (suc v) (omega arith)))
 
 -- every path has a node of the tables
-pub node-below : (p : List (List ℕ)) → nodeOf p < 73
+pub node-below : (p : List (List ℕ)) → nodeOf p < nodes
 unfolding nodeOf
 node-below [] = omega arith
 node-below (name ∷ p) = child-below (nodeOf p) name (node-below p)
@@ -52,17 +52,17 @@ named-found a (suc n) name h = go (sameName (nameOf a) name) refl h (named-found
         let f = r h in
         record { not-before = omega arith; not-behind = omega arith; named = f .named }
 
-child-found : (v : ℕ) (name : List ℕ) → v < 73 → (childOf v name ≡ nowhere → ⊥) → Found (getD firsts v 0) (getD firsts (suc v) 0) name (childOf v name)
+child-found : (v : ℕ) (name : List ℕ) → v < nodes → (childOf v name ≡ nowhere → ⊥) → Found (getD firsts v 0) (getD firsts (suc v) 0) name (childOf v name)
 unfolding childOf
 child-found v name b h =
     let f = named-found (getD firsts v 0) (getD firsts (suc v) 0 - getD firsts v 0) name h in
     record { not-before = f .not-before; not-behind = omega (arith, firsts-ascend v (suc v) (omega arith) (omega arith)); named = f .named }
 
 -- a child is neither nowhere nor above, and nothing is below nowhere
-child-from : (v : ℕ) (name : List ℕ) → v < 73 → (childOf v name ≡ nowhere → ⊥) → 2 ≤ childOf v name
+child-from : (v : ℕ) (name : List ℕ) → v < nodes → (childOf v name ≡ nowhere → ⊥) → 2 ≤ childOf v name
 child-from v name b h = let f = child-found v name b h in omega (arith, firsts-from v (omega arith))
 
-below-somewhere : (v : ℕ) (name : List ℕ) → v < 73 → (childOf v name ≡ nowhere → ⊥) → v ≡ nowhere → ⊥
+below-somewhere : (v : ℕ) (name : List ℕ) → v < nodes → (childOf v name ≡ nowhere → ⊥) → v ≡ nowhere → ⊥
 unfolding firsts
 below-somewhere v name b h e =
     let f = child-found v name b h in
@@ -70,10 +70,10 @@ below-somewhere v name b h e =
     omega (arith, child-from v name b h)
 
 -- two ranges that have a node in common are one range
-not-apart : (v u w : ℕ) → v < u → u < 73 → w < getD firsts (suc v) 0 → getD firsts u 0 ≤ w → ⊥
+not-apart : (v u w : ℕ) → v < u → u < nodes → w < getD firsts (suc v) 0 → getD firsts u 0 ≤ w → ⊥
 not-apart v u w h b k l = omega (arith, firsts-ascend (suc v) u (omega arith) (omega arith))
 
-one-parent : (v u w : ℕ) (m n : List ℕ) → v < 73 → u < 73 → Found (getD firsts v 0) (getD firsts (suc v) 0) m w
+one-parent : (v u w : ℕ) (m n : List ℕ) → v < nodes → u < nodes → Found (getD firsts v 0) (getD firsts (suc v) 0) m w
     → Found (getD firsts u 0) (getD firsts (suc u) 0) n w → v ≡ u
 one-parent v u w m n bv bu f g = go (ltb v u) (ltb u v) refl refl
   where

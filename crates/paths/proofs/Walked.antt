@@ -10,9 +10,10 @@ use lib.Dec.{eqb, ltb}
 use lib.ListN.{length, getD, take, drop, set, replicate, length-drop, length-set}
 use lib.Seq.{drop-drop, getD-set-same, getD-set-other}
 use borrow.Author.Tests.{ltb-false, eqb-true, eqb-false}
+use Rattle.sheet.specs.Grammar.{elementMost}
 use Rattle.outline.specs.Rows.{nameAt, aroundAt}
 use Rattle.outline.proofs.Walk.{list-goes, list-ends, around-low}
-use Rattle.paths.specs.Tree.{above, childOf, nodeOf}
+use Rattle.paths.specs.Tree.{above, nodes, childOf, nodeOf}
 use Rattle.paths.specs.Survey.{zeros, unseen, noted, seenFrom}
 use Rattle.paths.specs.declared.Standing.{Standing}
 use Rattle.paths.proofs.Nodes.{node-below}
@@ -31,12 +32,12 @@ pub record Walked (s : List ℕ) (count : ℕ) (starts depths stack : List ℕ) 
   pub within : k ≤ count
   pub low : level ≤ k
   pub few : bodies ≤ k
-  pub stack-long : length stack ≡ 257
-  pub counts-long : length counts ≡ 73
-  pub places-long : length places ≡ 73
+  pub stack-long : length stack ≡ elementMost + 1
+  pub counts-long : length counts ≡ nodes
+  pub places-long : length places ≡ nodes
   pub each-few : (v : ℕ) → getD counts v 0 ≤ k
   pub deep : length (pathBefore s starts depths k) ≡ level
-  pub nodes : (i : ℕ) → i ≤ level → getD stack i 0 ≡ nodeOf (drop (level - i) (pathBefore s starts depths k))
+  pub stacked : (i : ℕ) → i ≤ level → getD stack i 0 ≡ nodeOf (drop (level - i) (pathBefore s starts depths k))
   pub left : seenFrom s [] (take count starts) (take count depths) unseen
       ≡ seenFrom s (pathBefore s starts depths k) (drop k (take count starts)) (drop k (take count depths)) (soFar bodies counts places)
 
@@ -45,7 +46,7 @@ no-count zero v = refl
 no-count (suc n) zero = refl
 no-count (suc n) (suc v) = no-count n v
 
-only-above : (i : ℕ) → i ≤ 0 → getD (replicate 257 above) i 0 ≡ nodeOf (drop (0 - i) [])
+only-above : (i : ℕ) → i ≤ 0 → getD (replicate (elementMost + 1) above) i 0 ≡ nodeOf (drop (0 - i) [])
 unfolding nodeOf
 only-above zero h = refl
 only-above (suc i) h = absurd (omega arith)
@@ -75,7 +76,7 @@ seen-step : (s : List ℕ) (path : List (List ℕ)) (a d : ℕ) (more ds : List 
 unfolding seenFrom
 seen-step s path a d more ds seen = refl
 
-pub begins : (s : List ℕ) (count : ℕ) (starts depths : List ℕ) → Walked s count starts depths (replicate 257 above) 0 0 zeros zeros 0
+pub begins : (s : List ℕ) (count : ℕ) (starts depths : List ℕ) → Walked s count starts depths (replicate (elementMost + 1) above) 0 0 zeros zeros 0
 unfolding pathBefore
 begins s count starts depths = record {
   within = omega arith;
@@ -84,9 +85,9 @@ begins s count starts depths = record {
   stack-long = refl;
   counts-long = refl;
   places-long = refl;
-  each-few = λ v. omega (arith, no-count 73 v);
+  each-few = λ v. omega (arith, no-count nodes v);
   deep = refl;
-  nodes = only-above;
+  stacked = only-above;
   left = refl;
 }
 
@@ -99,8 +100,8 @@ module _ {s : List ℕ} {count : ℕ} {starts depths stack : List ℕ} {level bo
     pub cut-low : j ≤ level
     cut-low = around-low j (getD depths k 0 - 1) level around
 
-    pub around-below : getD stack j 0 < 73
-    around-below = rw (w .nodes j cut-low) (node-below (drop (level - j) (pathBefore s starts depths k)))
+    pub around-below : getD stack j 0 < nodes
+    around-below = rw (w .stacked j cut-low) (node-below (drop (level - j) (pathBefore s starts depths k)))
 
     around-cut : aroundAt (getD depths k 0) (pathBefore s starts depths k) ≡ drop (level - j) (pathBefore s starts depths k)
     around-cut = rw (w .deep, cut-down (getD depths k 0) level j around)
@@ -115,9 +116,9 @@ module _ {s : List ℕ} {count : ℕ} {starts depths stack : List ℕ} {level bo
     module _ {node : ℕ} (child : node ≡ childOf (getD stack j 0) (nameAt s (getD starts k 0))) where
       here-node : nodeOf (pathBefore s starts depths (k + 1)) ≡ node
       unfolding nodeOf
-      here-node = rw (here, ← w .nodes j cut-low, child)
+      here-node = rw (here, ← w .stacked j cut-low, child)
 
-      node-low : node < 73
+      node-low : node < nodes
       node-low = rw (← here-node) (node-below (pathBefore s starts depths (k + 1)))
 
       next-nodes : j + 1 < length stack → (i : ℕ) → i ≤ j + 1
@@ -134,7 +135,7 @@ module _ {s : List ℕ} {count : ℕ} {starts depths stack : List ℕ} {level bo
               let f : (j + 1) - i ≡ suc (j - i) = omega arith in
               let g : (level - j) + (j - i) ≡ level - i = omega (arith, cut-low) in
               rw (getD-set-other stack (j + 1) i node 0 (eqb-false i (j + 1) e), here, f, drop-drop (j - i) (level - j) (pathBefore s starts depths k), g)
-              (w .nodes i (omega (arith, cut-low)))
+              (w .stacked i (omega (arith, cut-low)))
 
       noted-here : {b : ℕ} → b ≡ cond (eqb (j + 1) 2) 1 0
           → noted (pathBefore s starts depths (k + 1)) (getD starts k 0) (soFar bodies counts places)
@@ -155,7 +156,7 @@ module _ {s : List ℕ} {count : ℕ} {starts depths stack : List ℕ} {level bo
           ∙ ap (λ (path : List (List ℕ)). seenFrom s path (drop (k + 1) (take count starts)) (drop (k + 1) (take count depths)) (noted path (getD starts k 0) (soFar bodies counts places))) here-whole
           ∙ ap (λ (seen : Standing). seenFrom s (pathBefore s starts depths (k + 1)) (drop (k + 1) (take count starts)) (drop (k + 1) (take count depths)) seen) (noted-here body))
 
-      pub turn : {b : ℕ} → b ≡ cond (eqb (j + 1) 2) 1 0 → count ≤ 256 → k < count → k < length starts → k < length depths
+      pub turn : {b : ℕ} → b ≡ cond (eqb (j + 1) 2) 1 0 → count ≤ elementMost → k < count → k < length starts → k < length depths
           → Walked s count starts depths (set stack (j + 1) node) (j + 1) (bodies + b) (set counts node (getD counts node 0 + 1)) (set places node (getD starts k 0)) (k + 1)
       turn {b} body hc h hs hd = record {
         within = omega arith;
@@ -166,6 +167,6 @@ module _ {s : List ℕ} {count : ℕ} {starts depths stack : List ℕ} {level bo
         places-long = length-set places node (getD starts k 0) ∙ w .places-long;
         each-few = raised counts k node (w .each-few) (omega (arith, node-low, w .counts-long));
         deep = here-deep;
-        nodes = next-nodes (omega (arith, cut-low, w .low, w .stack-long));
+        stacked = next-nodes (omega (arith, cut-low, w .low, w .stack-long));
         left = w .left ∙ seen-goes body h hs hd;
       }

@@ -1,6 +1,7 @@
 -- The paths of all fields of document 01, "Fields", as one tree of names, and the node of a path.
 -- Which nodes are the fields of which kind is said in the crate of messages, by their paths, and checked against this tree there: a reader who
 -- believes that table need not read this one. That no two paths have one node is a theorem (`proofs/Nodes.antt`).
+-- `tests/tree.py` writes the numbers and the two tables from that crate's paths.
 use mathlib.Core.Bool.{Bool, true, false, cond}
 use mathlib.Core.List.{List, [], _∷_}
 use Prim.Native.Nat.{ℕ, zero, suc, _-_}
@@ -20,7 +21,11 @@ above = 1
 abbrev pub nodes : ℕ
 nodes = 73
 
--- the name of each node with blanks behind it. Below a node the next ones stand side by side
+-- the bytes of a name with the blanks after it, of which there is one at least
+abbrev pub nameWide : ℕ
+nameWide = 18
+
+-- the name of each node with blanks after it. Below a node the next ones stand side by side
 unfoldable pub names : List (List ℕ)
 names =
     bytes "                  "

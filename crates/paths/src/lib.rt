@@ -6,8 +6,10 @@ mod tree;
 
 use outline::name_at;
 use outline::names_around;
+use sheet::ELEMENT_MOST;
 use sheet::read;
 use tree::ABOVE;
+pub use tree::NODES;
 use tree::all_firsts;
 use tree::all_names;
 use tree::child;
@@ -18,6 +20,7 @@ ghost use Prim.Native.Nat.{_≤_};
 ghost use lib.Dec.{eqb};
 ghost use lib.ListN.{length, take};
 ghost use Rattle.sheet.specs.Answer.{refused};
+ghost use Rattle.sheet.specs.Grammar.{elementMost};
 ghost use Rattle.paths.specs.Survey.{unseen, seenFrom, standingOf, surveyOf};
 
 // What was seen of a sheet. Refused, it has its place and nothing else; accepted, the number of elements right below the outer one, and for
@@ -26,8 +29,8 @@ pub struct Standing {
     pub accepted: bool,
     pub place: usize,
     pub bodies: usize,
-    pub counts: [usize; 73],
-    pub starts: [usize; 73],
+    pub counts: [usize; NODES],
+    pub starts: [usize; NODES],
 }
 
 fn unread(place: usize) -> Standing
@@ -37,8 +40,8 @@ fn unread(place: usize) -> Standing
         accepted: false,
         place,
         bodies: 0,
-        counts: [0; 73],
-        starts: [0; 73],
+        counts: [0; NODES],
+        starts: [0; NODES],
     }
 }
 
@@ -53,17 +56,22 @@ fn is_body(level: usize) -> usize
 }
 
 // The elements of a read sheet. The stack has the node of each open element, that of the top first.
-fn walk(s: &[u8], count: usize, starts: &[usize; 256], depths: &[usize; 256]) -> Standing
-    requires { ⌜ (count ≤ 256) × (256 ≤ length (now starts)) × (256 ≤ length (now depths)) ⌝ }
+fn walk(
+    s: &[u8],
+    count: usize,
+    starts: &[usize; ELEMENT_MOST],
+    depths: &[usize; ELEMENT_MOST],
+) -> Standing
+    requires { ⌜ (count ≤ elementMost) × (elementMost ≤ length (now starts)) × (elementMost ≤ length (now depths)) ⌝ }
     ensures { λ r. ⌜ r ≡ seenFrom (now (s .entry)) [] (take count (now (starts .entry))) (take count (now (depths .entry))) unseen ⌝ }
 {
     let names = all_names();
     let firsts = all_firsts();
-    let mut stack = [ABOVE; 257];
+    let mut stack = [ABOVE; ELEMENT_MOST + 1];
     let mut level = 0;
     let mut bodies = 0;
-    let mut counts = [0usize; 73];
-    let mut places = [0usize; 73];
+    let mut counts = [0usize; NODES];
+    let mut places = [0usize; NODES];
     let mut k = 0;
     while k < count {
         let start = starts[k];

@@ -1,19 +1,26 @@
 // The paths of all fields as one tree of names. A node is an element's name below another node, so a path is a walk from the top.
 // The nodes stand breadth first: those below a node stand side by side, from the node's first one up to the next node's first one.
 // Node 0 is nowhere: no path of the tree. Node 1 stands above the outer element.
+// `tests/tree.py` writes the numbers and the two tables from the paths in `message/specs/Fields.antt`.
 ghost use mathlib.Core.Path.{_≡_};
 ghost use mathlib.Core.List.{[]};
-ghost use Prim.Native.Nat.{_<_, _≤_};
+ghost use Prim.Native.Nat.{_+_, _<_, _≤_};
 ghost use lib.ListN.{getD};
 ghost use Rattle.outline.specs.Paths.{sameName};
-ghost use Rattle.paths.specs.Tree.{names, firsts, nameOf, childOf};
+ghost use Rattle.paths.specs.Tree.{nodes, names, firsts, nameOf, childOf};
 
 pub const NOWHERE: usize = 0;
 
 pub const ABOVE: usize = 1;
 
-// The name of each node, with blanks behind it.
-const NAMES: [[u8; 18]; 73] = [
+// How many nodes there are, these two among them.
+pub const NODES: usize = 73;
+
+// The bytes of a name with the blanks after it, of which there is one at least.
+const NAME_WIDE: usize = 18;
+
+// The name of each node, with blanks after it.
+const NAMES: [[u8; NAME_WIDE]; NODES] = [
     *b"                  ",
     *b"                  ",
     *b"Document          ",
@@ -90,7 +97,7 @@ const NAMES: [[u8; 18]; 73] = [
 ];
 
 // The first node below each node; one entry more, where the last one's end.
-const FIRSTS: [usize; 74] = [
+const FIRSTS: [usize; NODES + 1] = [
     2,
     2,
     3,
@@ -168,39 +175,39 @@ const FIRSTS: [usize; 74] = [
 ];
 
 // Both tables as values: they are written out anew wherever one is asked for, so a survey asks once and lends them.
-pub fn all_names() -> [[u8; 18]; 73]
+pub fn all_names() -> [[u8; NAME_WIDE]; NODES]
     ensures { λ r. ⌜ r ≡ names ⌝ }
 {
     NAMES
 }
 
-pub fn all_firsts() -> [usize; 74]
+pub fn all_firsts() -> [usize; NODES + 1]
     ensures { λ r. ⌜ r ≡ firsts ⌝ }
 {
     FIRSTS
 }
 
-fn line(lines: &[[u8; 18]; 73], node: usize) -> [u8; 18]
-    requires { ⌜ (now lines ≡ names) × (node < 73) ⌝ }
+fn line(lines: &[[u8; NAME_WIDE]; NODES], node: usize) -> [u8; NAME_WIDE]
+    requires { ⌜ (now lines ≡ names) × (node < nodes) ⌝ }
     ensures { λ r. ⌜ r ≡ getD names node [] ⌝ }
 {
     lines[node]
 }
 
-fn first(starts: &[usize; 74], node: usize) -> usize
-    requires { ⌜ (now starts ≡ firsts) × (node < 74) ⌝ }
+fn first(starts: &[usize; NODES + 1], node: usize) -> usize
+    requires { ⌜ (now starts ≡ firsts) × (node < nodes + 1) ⌝ }
     ensures { λ r. ⌜ r ≡ getD firsts node 0 ⌝ }
-    ensures { λ r. ⌜ r ≤ 73 ⌝ }
+    ensures { λ r. ⌜ r ≤ nodes ⌝ }
 {
     starts[node]
 }
 
 // Whether a name is the node's. A blank ends the node's name and is in no other.
-fn is_named(lines: &[[u8; 18]; 73], node: usize, name: &[u8]) -> bool
-    requires { ⌜ (now lines ≡ names) × (node < 73) ⌝ }
+fn is_named(lines: &[[u8; NAME_WIDE]; NODES], node: usize, name: &[u8]) -> bool
+    requires { ⌜ (now lines ≡ names) × (node < nodes) ⌝ }
     ensures { λ r. ⌜ r ≡ sameName (nameOf node) (now (name .entry)) ⌝ }
 {
-    if 17 < name.len() {
+    if NAME_WIDE <= name.len() {
         return false;
     }
     let l = line(lines, node);
@@ -216,10 +223,15 @@ fn is_named(lines: &[[u8; 18]; 73], node: usize, name: &[u8]) -> bool
 }
 
 // The node of a name below a node, or nowhere.
-pub fn child(lines: &[[u8; 18]; 73], starts: &[usize; 74], node: usize, name: &[u8]) -> usize
-    requires { ⌜ (now lines ≡ names) × (now starts ≡ firsts) × (node < 73) ⌝ }
+pub fn child(
+    lines: &[[u8; NAME_WIDE]; NODES],
+    starts: &[usize; NODES + 1],
+    node: usize,
+    name: &[u8],
+) -> usize
+    requires { ⌜ (now lines ≡ names) × (now starts ≡ firsts) × (node < nodes) ⌝ }
     ensures { λ r. ⌜ r ≡ childOf node (now (name .entry)) ⌝ }
-    ensures { λ r. ⌜ r < 73 ⌝ }
+    ensures { λ r. ⌜ r < nodes ⌝ }
 {
     let end = first(starts, node + 1);
     let mut below = first(starts, node);

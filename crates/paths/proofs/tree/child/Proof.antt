@@ -2,13 +2,13 @@
 use mathlib.Core.Path.{_≡_, sym, _∙_}
 use Prim.Native.Nat.{_≤_, _-_}
 use native.Mathlib.Omega.{arith}
-use Rattle.paths.specs.Tree.{childOf, namedFrom}
+use Rattle.paths.specs.Tree.{nodes, childOf, namedFrom}
 use Rattle.paths.proofs.Named.{child-begins, child-here, child-further, child-nowhere}
 use Rattle.paths.proofs.tree.child.Statement.{statement}
 use Rattle.paths.proofs.tree.child.Tie as tie
 
 abbrev Inv-loop : tie.InvT-loop
-Inv-loop lines starts node name end below₀ below = (end ≤ 73) × (childOf node name ≡ namedFrom below (end - below) name)
+Inv-loop lines starts node name end below₀ below = (end ≤ nodes) × (childOf node name ≡ namedFrom below (end - below) name)
 
 abbrev μ-loop : tie.MeasureT-loop
 μ-loop lines starts node name end below₀ below = end - below

@@ -5,6 +5,7 @@ use Prim.Native.Nat.{ℕ, _≤_}
 use native.Mathlib.Omega.{arith}
 use lib.ListN.{length, getD}
 use borrow.Author.Needs.{needs}
+use Rattle.paths.specs.Tree.{nodes}
 use Rattle.paths.proofs.Table.{firsts-count, firsts-low}
 use Rattle.paths.proofs.tree.first.Statement.{statement}
 use Rattle.paths.proofs.tree.first.Tie as tie
@@ -18,7 +19,7 @@ element-copy-out-result c = omega (arith, ap length (c .pre .0) ∙ firsts-count
 returns : tie.Need-returns
 returns c = (
   ap (λ (l : List ℕ). getD l (c .before .args .node) 0) (c .before .pre .0),
-  subst (λ (l : List ℕ). getD l (c .before .args .node) 0 ≤ 73) (sym (c .before .pre .0)) (firsts-low _ (c .before .pre .1)),
+  subst (λ (l : List ℕ). getD l (c .before .args .node) 0 ≤ nodes) (sym (c .before .pre .0)) (firsts-low _ (c .before .pre .1)),
 )
 
 pub first-spec : {M : Type 1} → statement M

@@ -1,17 +1,18 @@
 -- Each turn leaves the test as it was, one byte further on; the line's blank ends it.
 use mathlib.Core.Path.{_≡_, sym, ap, _∙_}
-use Prim.Native.Nat.{_≤_, _-_}
+use Prim.Native.Nat.{_≤_, _<_, _-_}
 use native.Mathlib.Omega.{arith}
 use lib.ListN.{length, drop}
 use Rattle.outline.specs.Paths.{sameName}
-use Rattle.paths.specs.Tree.{nameOf, beforeBlank}
+use Rattle.paths.specs.Tree.{nameWide, nameOf, beforeBlank}
 use Rattle.paths.proofs.Table.{line-long}
 use Rattle.paths.proofs.Named.{name-too-long, name-differs, name-agrees, name-ends}
 use Rattle.paths.proofs.tree.is_named.Statement.{statement}
 use Rattle.paths.proofs.tree.is_named.Tie as tie
 
 abbrev Inv-loop : tie.InvT-loop
-Inv-loop lines node name l i₀ i = (length l ≡ 18) × (length name ≤ 17) × (i ≤ length name) × (sameName (nameOf node) name ≡ sameName (beforeBlank (drop i l)) (drop i name))
+Inv-loop lines node name l i₀ i = (length l ≡ nameWide) × (length name < nameWide) × (i ≤ length name)
+    × (sameName (nameOf node) name ≡ sameName (beforeBlank (drop i l)) (drop i name))
 
 abbrev μ-loop : tie.MeasureT-loop
 μ-loop lines node name l i₀ i = length name - i
