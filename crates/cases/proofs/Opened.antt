@@ -17,8 +17,8 @@ use Rattle.sheet.specs.Grammar.{isNameByte}
 use Rattle.sheet.specs.Machine.{step}
 use Rattle.outline.specs.Paths.{samePath, charactersOf, standing, atDepth, sameName}
 use Rattle.outline.specs.Rows.{insideAt, rowsFrom, hasCcy, rowsOf as outlineRowsOf, textAt, ccyAt, nameEnd, nameAt, hasText}
-use Rattle.message.specs.Fields.{camt050Fields, pacs008Fields, pacs028Fields, fieldsOf as messageFieldsOf, byKind, bodyOf}
-use Rattle.message.specs.Good.{ccyFits, textFits, firstBad, hasShape, isGood, heldIn}
+use Rattle.message.specs.Fields.{camt050Fields, pacs008Fields, pacs028Fields, fieldsOf as messageFieldsOf, numbersOf, bodyOf}
+use Rattle.message.specs.Good.{ccyFits, textFits, goesWith, firstBad, hasShape, isGood, heldIn}
 use Rattle.message.specs.Message.{ccyIn, agentOf, messageFrom, startIn, lengthIn, nameOf, textIn, messageOf}
 use Rattle.message.specs.Received.{receivedFrom, kindNamed, receivedIn, receivedAs, kindOf, onlyKind, receivedOf, heldOf}
 use Rattle.directory.specs.Directory.{foundFrom, isFit, ownerUsed, found}
@@ -68,7 +68,7 @@ unfolding samePath charactersOf standing atDepth sameName insideAt rowsFrom hasC
 outline-opened = tt
 
 unfoldable pub message-opened : Unit {0}
-unfolding camt050Fields pacs008Fields pacs028Fields messageFieldsOf byKind bodyOf ccyFits textFits firstBad hasShape isGood heldIn ccyIn agentOf messageFrom startIn lengthIn nameOf textIn messageOf receivedFrom kindNamed receivedIn receivedAs kindOf onlyKind receivedOf heldOf
+unfolding camt050Fields pacs008Fields pacs028Fields messageFieldsOf numbersOf bodyOf ccyFits textFits goesWith firstBad hasShape isGood heldIn ccyIn agentOf messageFrom startIn lengthIn nameOf textIn messageOf receivedFrom kindNamed receivedIn receivedAs kindOf onlyKind receivedOf heldOf
 message-opened = tt
 
 unfoldable pub directory-opened : Unit {0}

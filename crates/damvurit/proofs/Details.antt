@@ -6,12 +6,11 @@ use mathlib.Core.Bool.{Bool, true, false, not, _&&_, cond}
 use mathlib.Core.List.{List, [], _∷_, map}
 use native.Mathlib.Omega.{arith}
 use Prim.Native.Nat.{ℕ, suc, _+_, _≤_}
-use borrow.Author.Tests.{eqb-true, leb-true, leb-false, not-false}
+use borrow.Author.Tests.{eqb-true, leb-false, not-false}
 use lib.Dec.{leb, ltb, eqb}
 use lib.ListN.{length}
 use Rattle.shape.specs.Dates.{isDate}
 use Rattle.table.specs.declared.Kind.{Kind}
-use Rattle.table.specs.declared.Kind.the-variants.{Pacs008, Camt050, Pacs028}
 use Rattle.slip.specs.declared.Slip.{Slip}
 use Rattle.slip.specs.Meaning.{seats, openings, steps}
 use Rattle.sheet.specs.Answer.{Reading, accepted, refused as refusedAt, readingOf}
@@ -20,12 +19,13 @@ use Rattle.sheet.proofs.Reading.{reading-right}
 use Rattle.outline.specs.Rows.{Row, rowsOf}
 use Rattle.message.specs.declared.kinds.Body.{Body}
 use Rattle.message.specs.declared.kinds.Body.the-variants.{Of, Unknown}
-use Rattle.message.specs.Fields.{Field, fieldsOf, pacs008Fields, camt050Fields, pacs028Fields}
+use Rattle.message.specs.Fields.{Field, fieldsOf}
 use Rattle.message.specs.Message.{startIn, lengthIn, messageOf}
-use Rattle.message.specs.Good.{Held, firstBad, isGood}
+use Rattle.message.specs.Good.{Held, isGood, goesWith, firstBad, lowestBad}
 use Rattle.message.specs.declared.Answer.the-variants.{BadField, Good}
 use Rattle.message.specs.declared.Received.{Received}
-use Rattle.message.specs.Received.{numberOf, fieldsMost, byNumber, refusal, judged, kindOf, heldOf, receivedIn, receivedAs, receivedFrom, receivedOf}
+use Rattle.message.specs.Received.{numberOf, byNumber, refusal, judged, kindOf, heldOf, receivedIn, receivedAs, receivedFrom, receivedOf}
+use Rattle.message.proofs.FieldShown.{fields-few}
 use Rattle.directory.specs.declared.Participant.{Participant}
 use Rattle.directory.specs.Directory.{codeMost, isFit}
 use Rattle.layout.specs.Seat.{headOf, seatOf}
@@ -89,21 +89,16 @@ place-low s place (broken _ short unformed within viable longest) = omega arith
 place-low s _ (long over) = omega arith
 
 -- the first bad field is one of the fields
-bad-among : (k : ℕ) (fields : List Field) (held : List Held) → firstBad k fields held ≤ k + length fields
+bad-among : (goes : ℕ → Bool) (k : ℕ) (fields : List Field) (held : List Held) → firstBad goes k fields held ≤ k + length fields
 unfolding firstBad
-bad-among k [] held = omega arith
-bad-among k (f ∷ fields) [] = omega arith
-bad-among k (f ∷ fields) (h ∷ held) = either (isGood (f .optional) (f .shape) (f .ccy) h) (bad-among (suc k) fields held)
+bad-among goes k [] held = omega arith
+bad-among goes k (f ∷ fields) [] = omega arith
+bad-among goes k (f ∷ fields) (h ∷ held) = either (isGood (f .optional) (f .shape) (f .ccy) h && goes k) (bad-among goes (suc k) fields held)
   where
-    either : (good : Bool) → firstBad (suc k) fields held ≤ suc k + length fields → cond good (firstBad (suc k) fields held) k ≤ k + suc (length fields)
+    either : (good : Bool) → firstBad goes (suc k) fields held ≤ suc k + length fields
+        → cond good (firstBad goes (suc k) fields held) k ≤ k + suc (length fields)
     either true rest = omega arith
     either false rest = omega arith
-
-few-fields : (kind : Kind) → length (fieldsOf kind) ≤ fieldsMost
-unfolding fieldsOf pacs008Fields camt050Fields pacs028Fields
-few-fields Pacs008 = leb-true (length (fieldsOf Pacs008)) fieldsMost refl
-few-fields Camt050 = leb-true (length (fieldsOf Camt050)) fieldsMost refl
-few-fields Pacs028 = leb-true (length (fieldsOf Pacs028)) fieldsMost refl
 
 abbrev detailOf : Received → ℕ
 detailOf received = numberOf (received .answer) .1
@@ -122,8 +117,9 @@ as-low : (body : Body) (rows : List Row) → detailOf (receivedAs body rows) ≤
 unfolding receivedAs receivedIn
 as-low Unknown rows = omega arith
 as-low (Of kind) rows =
-    judged-low kind (heldOf kind rows) (firstBad 1 (fieldsOf kind) (heldOf kind rows))
-    (omega (arith, bad-among 1 (fieldsOf kind) (heldOf kind rows), few-fields kind))
+    let held = heldOf kind rows in
+    judged-low kind held (lowestBad kind held)
+    (omega (arith, bad-among (λ (number : ℕ). goesWith kind number held) 1 (fieldsOf kind) held, fields-few kind))
 
 from-low : (s : List ℕ) (r : Reading) → Right s r → detailOf (receivedFrom s r) ≤ detailMost
 unfolding receivedFrom

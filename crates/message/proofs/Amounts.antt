@@ -10,16 +10,16 @@ use Rattle.shape.specs.Patterns.{fits, currencyPattern}
 use Rattle.shape.specs.declared.value.Value.the-variants.{None}
 use Rattle.table.specs.declared.Kind.{Kind}
 use Rattle.table.specs.declared.Kind.the-variants.{Pacs008, Camt050, Pacs028}
-use Rattle.message.specs.Fields.{fieldsOf, pacs008Fields, camt050Fields, pacs028Fields, byKind}
+use Rattle.message.specs.Fields.{fieldsOf, pacs008Fields, camt050Fields, pacs028Fields, numbersOf}
 use Rattle.message.specs.Good.{Held, missing}
-use Rattle.message.specs.Message.{ccyIn, numbered, amountNumber}
+use Rattle.message.specs.Message.{ccyIn, numbered}
 
 pub no-currency : (held : List Held) (number : ℕ) → number ≡ 0 → None ≡ currencyOf (ccyIn (numbered held number))
 unfolding currencyOf ccyIn fits currencyPattern
 no-currency held number e = rw e
 
-pub amount-listed : (kind : Kind) (number : ℕ) → number ≡ amountNumber kind → 0 < number → number - 1 < length (fieldsOf kind)
-unfolding byKind fieldsOf pacs008Fields camt050Fields pacs028Fields
+pub amount-listed : (kind : Kind) (number : ℕ) → number ≡ numbersOf kind .amount → 0 < number → number - 1 < length (fieldsOf kind)
+unfolding numbersOf fieldsOf pacs008Fields camt050Fields pacs028Fields
 amount-listed Pacs008 number e h = omega arith
 amount-listed Camt050 number e h = omega arith
 amount-listed Pacs028 number e h = absurd (omega arith)

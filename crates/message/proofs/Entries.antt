@@ -3,7 +3,7 @@
 use mathlib.Core.Path.{_≡_, refl, _∙_}
 use mathlib.Core.Bool.{Bool, false}
 use mathlib.Core.List.{List, map}
-use Prim.Native.Nat.{ℕ, _≤_, _<_}
+use Prim.Native.Nat.{ℕ, _<_}
 use lib.Dec.{ltb}
 use lib.ListN.{length, getD, length-map, List·getD-map}
 use borrow.Author.Tests.{ltb-true}
@@ -15,7 +15,7 @@ use Rattle.table.proofs.Lines.{each, getD-any}
 use Rattle.message.specs.declared.kinds.Shape.the-variants.{Identifier}
 use Rattle.message.specs.declared.kinds.Ccy.the-variants.{Absent}
 use Rattle.message.specs.declared.kinds.Entry.{Entry}
-use Rattle.message.specs.Fields.{Field, pacs008Fields, camt050Fields, pacs028Fields, fieldsOf, byKind}
+use Rattle.message.specs.Fields.{Field, pacs008Fields, camt050Fields, pacs028Fields, fieldsOf}
 use Rattle.message.specs.Seen.{noField, entryOf}
 
 -- what a table of the code gives behind its end
@@ -41,10 +41,3 @@ pub entry-found : (kind told : Kind) (k : ℕ) (e : Entry) → kind ≡ told →
     → (e ≡ entryOf (getD (fieldsOf kind) k noField)) × (e .node < nodes)
 unfolding entryOf
 entry-found kind told k e t f = (rw t f, rw f (node-small told k))
-
--- of three numbers that are not above a bound none is
-pub by-kind-most : (kind : Kind) (a b c n : ℕ) → a ≤ n → b ≤ n → c ≤ n → byKind kind a b c ≤ n
-unfolding byKind
-by-kind-most Pacs008 a b c n p q r = p
-by-kind-most Camt050 a b c n p q r = q
-by-kind-most Pacs028 a b c n p q r = r

@@ -14,8 +14,8 @@ use Rattle.table.specs.declared.Kind.{Kind}
 use Rattle.table.specs.declared.Kind.the-variants.{Pacs008, Camt050, Pacs028}
 use Rattle.message.specs.declared.kinds.Body.{Body}
 use Rattle.message.specs.declared.kinds.Body.the-variants.{Of, Unknown}
-use Rattle.message.specs.Fields.{Field, fieldsOf, pacs008Fields, camt050Fields, pacs028Fields}
-use Rattle.message.specs.Good.{Held, missing, once, heldIn, firstBad}
+use Rattle.message.specs.Fields.{Field, fieldsOf, fieldsMost, pacs008Fields, camt050Fields, pacs028Fields}
+use Rattle.message.specs.Good.{Held, missing, once, heldIn, lowestBad}
 use Rattle.message.specs.Message.{textIn, numbered}
 use Rattle.message.specs.Received.{heldOf, nothing, judged, receivedIn, receivedAs, receivedFrom, receivedOf, kindOf, shownIn, fieldAs, fieldFrom, fieldOf}
 use Rattle.message.proofs.Stands.{Stands, missing-stands, doubled-stands, element-stands, all-stand, shown-is-text}
@@ -77,7 +77,7 @@ unfolding receivedAs receivedIn fieldAs
 as-shown s Unknown n starts depths k = nothing-shown s k
 as-shown s (Of kind) n starts depths k =
     judged-shown s kind (heldOf kind (rowsOf s n starts depths)) (fields-stand s kind n starts depths) k
-    (firstBad 1 (fieldsOf kind) (heldOf kind (rowsOf s n starts depths)))
+    (lowestBad kind (heldOf kind (rowsOf s n starts depths)))
 
 from-shown : (s : List ℕ) (reading : Reading) (k : ℕ) → shownIn s (receivedFrom s reading .starts) (receivedFrom s reading .lengths) k ≡ fieldFrom s reading k
 unfolding receivedFrom fieldFrom
@@ -88,14 +88,14 @@ pub field-shown : (s : List ℕ) (k : ℕ) → shownIn s (receivedOf s .starts) 
 unfolding receivedOf fieldOf
 field-shown s k = from-shown s (readingOf s) k
 
--- no kind has a field with a number above 14
-pub fields-few : (kind : Kind) → length (fieldsOf kind) ≤ 14
+-- no kind has a field with a number above the most
+pub fields-few : (kind : Kind) → length (fieldsOf kind) ≤ fieldsMost
 unfolding fieldsOf pacs008Fields camt050Fields pacs028Fields
 fields-few Pacs008 = omega arith
 fields-few Camt050 = omega arith
 fields-few Pacs028 = omega arith
 
-past-last : (kind : Kind) (rows : List Row) (k : ℕ) → 14 < k → textIn (numbered (heldOf kind rows) k) ≡ []
+past-last : (kind : Kind) (rows : List Row) (k : ℕ) → fieldsMost < k → textIn (numbered (heldOf kind rows) k) ≡ []
 unfolding textIn heldOf
 past-last kind rows k h =
     let e : length (heldOf kind rows) ≡ length (fieldsOf kind) = length-map (fieldsOf kind) (λ (f : Field). heldIn (standing (f .path) rows)) in
@@ -106,16 +106,17 @@ both-none : (t : Bool) (l : List ℕ) → l ≡ [] → cond t l [] ≡ []
 both-none true l e = e
 both-none false l e = refl
 
-as-past : (body : Body) (rows : List Row) (k : ℕ) → 14 < k → fieldAs body rows k ≡ []
+as-past : (body : Body) (rows : List Row) (k : ℕ) → fieldsMost < k → fieldAs body rows k ≡ []
 unfolding fieldAs
 as-past Unknown rows k h = refl
-as-past (Of kind) rows k h = both-none (eqb (firstBad 1 (fieldsOf kind) (heldOf kind rows)) 0) (textIn (numbered (heldOf kind rows) k)) (past-last kind rows k h)
+as-past (Of kind) rows k h =
+    both-none (eqb (lowestBad kind (heldOf kind rows)) 0) (textIn (numbered (heldOf kind rows) k)) (past-last kind rows k h)
 
-from-past : (s : List ℕ) (reading : Reading) (k : ℕ) → 14 < k → fieldFrom s reading k ≡ []
+from-past : (s : List ℕ) (reading : Reading) (k : ℕ) → fieldsMost < k → fieldFrom s reading k ≡ []
 unfolding fieldFrom
 from-past s (refused place) k h = refl
 from-past s (accepted n starts depths) k h = as-past (kindOf (rowsOf s n starts depths)) (rowsOf s n starts depths) k h
 
-pub field-past : (s : List ℕ) (k : ℕ) → 14 < k → fieldOf s k ≡ []
+pub field-past : (s : List ℕ) (k : ℕ) → fieldsMost < k → fieldOf s k ≡ []
 unfolding fieldOf
 field-past s k h = from-past s (readingOf s) k h

@@ -9,16 +9,16 @@ use lib.ListN.{length, getD, set, take, replicate, length-map}
 use lib.Seq.{take-all}
 use Rattle.table.specs.declared.Kind.{Kind}
 use Rattle.message.specs.declared.kinds.Entry.{Entry}
-use Rattle.message.specs.Fields.{fieldsOf}
+use Rattle.message.specs.Fields.{fieldsOf, fieldsMost}
 use Rattle.message.specs.Good.{Held, missing}
 use Rattle.message.specs.Received.{byNumber}
 use Rattle.message.specs.Seen.{noField, entryOf, heldAt, heldSeen}
 use Rattle.message.proofs.Turns.{seenAt, seen-held}
 
 pub filled : List ℕ → ℕ → List ℕ
-filled values k = 0 ∷ (take k values ++ replicate (14 - k) 0)
+filled values k = 0 ∷ (take k values ++ replicate (fieldsMost - k) 0)
 
-pub filled-begin : (values : List ℕ) → replicate 15 0 ≡ filled values 0
+pub filled-begin : (values : List ℕ) → replicate (fieldsMost + 1) 0 ≡ filled values 0
 unfolding filled
 filled-begin values = refl
 
@@ -34,9 +34,10 @@ store (v ∷ values) (suc k) n h m =
     rw (e, f) (ap (λ (l : List ℕ). v ∷ l) (store values k (n - 1) (omega arith) (omega arith)))
 
 -- the next value is stored
-pub filled-goes : (values : List ℕ) (k v : ℕ) → k < length values → k < 14 → v ≡ getD values k 0 → set (filled values k) (k + 1) v ≡ filled values (k + 1)
+pub filled-goes : (values : List ℕ) (k v : ℕ) → k < length values → k < fieldsMost → v ≡ getD values k 0
+    → set (filled values k) (k + 1) v ≡ filled values (k + 1)
 unfolding filled
-filled-goes values k v h m e = rw (e, add-one k) (ap (λ (l : List ℕ). 0 ∷ l) (store values k 14 h m))
+filled-goes values k v h m e = rw (e, add-one k) (ap (λ (l : List ℕ). 0 ∷ l) (store values k fieldsMost h m))
 
 pub filled-ends : (values : List ℕ) (k : ℕ) → k ≡ length values → filled values k ≡ byNumber values
 unfolding filled
@@ -61,7 +62,12 @@ module _ (s : List ℕ) (kind : Kind) (counts starts : List ℕ) where
     unfolding entryOf
     held-here = rw here (sym (rw (seen-held s kind counts starts) (at-map (seenAt s counts starts) (fieldsOf kind) k noField missing h)))
 
-    pub value-here : (f : Held → ℕ) → f (heldAt s (getD counts (e .node) 0) (getD starts (e .node) 0)) ≡ getD (map f (heldSeen s kind counts starts)) k 0
+    value-here : (f : Held → ℕ) → f (heldAt s (getD counts (e .node) 0) (getD starts (e .node) 0)) ≡ getD (map f (heldSeen s kind counts starts)) k 0
     value-here f =
         let l : k < length (heldSeen s kind counts starts) = omega (arith, held-count) in
         ap f held-here ∙ sym (at-map f (heldSeen s kind counts starts) k missing 0 l)
+
+    -- so the next value is that of the k-th field
+    pub filled-next : k < fieldsMost → (f : Held → ℕ) (v : ℕ) → v ≡ f (heldAt s (getD counts (e .node) 0) (getD starts (e .node) 0))
+        → set (filled (map f (heldSeen s kind counts starts)) k) (k + 1) v ≡ filled (map f (heldSeen s kind counts starts)) (k + 1)
+    filled-next m f v is = filled-goes (map f (heldSeen s kind counts starts)) k v (omega (arith, values-count f)) m (is ∙ value-here f)

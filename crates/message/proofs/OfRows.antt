@@ -24,7 +24,7 @@ use Rattle.message.specs.declared.kinds.Body.the-variants.{Of, Unknown}
 use Rattle.message.specs.Fields.{Field, pacs008Fields, camt050Fields, pacs028Fields, fieldsOf, bodyOf}
 use Rattle.message.specs.Good.{Held, missing, once, doubled, heldIn}
 use Rattle.message.specs.Received.{kindNamed, onlyKind, kindOf, heldOf}
-use Rattle.message.specs.Seen.{heldAt, heldSeen, kindSeen}
+use Rattle.message.specs.Seen.{heldAt, heldSeen, bodiesSeen, kindSeen}
 
 two-not : (n k : ℕ) → k < 2 → eqb (suc (suc n)) k ≡ false
 two-not n k h = ne-eqb (suc (suc n)) k (λ e. omega arith)
@@ -45,6 +45,13 @@ unfolding on-tree fieldsOf pacs008Fields camt050Fields pacs028Fields nodeOf chil
 tested Pacs008 = refl
 tested Camt050 = refl
 tested Pacs028 = refl
+
+-- so has the path that names a kind, and it has two names
+body-tested : (kind : Kind) → (length (bodyOf kind) ≡ 2) × (nodeOf (bodyOf kind) ≡ 0 → ⊥)
+unfolding bodyOf nodeOf childOf nameOf names firsts sameName
+body-tested Pacs008 = (refl, λ z. omega arith)
+body-tested Camt050 = (refl, λ z. omega arith)
+body-tested Pacs028 = (refl, λ z. omega arith)
 
 map-same : (test : Field → Bool) (f g : Field → Held) → ((x : Field) → test x ≡ true → f x ≡ g x)
     → (fields : List Field) → every test fields ≡ true → map f fields ≡ map g fields
@@ -106,20 +113,14 @@ module _ (s : List ℕ) (n : ℕ) (starts depths : List ℕ) where
       (λ f e. held-is (f .path) (λ z. false≢true (sym (not-true _ e) ∙ eq-eqb (nodeOf (f .path)) 0 z)))
       (fieldsOf kind) (tested kind)
 
-  body-counted : (kind : Kind) (v : ℕ) → nodeOf (bodyOf kind) ≡ v → length (bodyOf kind) ≡ 2 → (v ≡ 0 → ⊥)
-      → getD (standingOf s (accepted n starts depths) .counts) v 0 ≡ length (standing (bodyOf kind) (atDepth 2 rows))
-  body-counted kind v e two somewhere =
-      rw (← e, counted s n starts depths (bodyOf kind) (λ z. somewhere (sym e ∙ z)), ← two)
+  body-counted : (kind : Kind) → bodiesSeen kind (standingOf s (accepted n starts depths) .counts) ≡ length (standing (bodyOf kind) (atDepth 2 rows))
+  body-counted kind =
+      rw (counted s n starts depths (bodyOf kind) (body-tested kind .1), ← body-tested kind .0)
       (ap length (sym (filtered (bodyOf kind) rows)))
 
   -- the kind
   pub kind-seen : kindOf rows ≡ kindSeen (standingOf s (accepted n starts depths) .bodies) (standingOf s (accepted n starts depths) .counts)
-  unfolding kindOf kindSeen bodyOf nodeOf childOf nameOf names firsts sameName
+  unfolding kindOf kindSeen
   kind-seen =
       kind-counted (atDepth 2 rows)
-      ∙ rw (
-        bodies-counted s n starts depths,
-        body-counted Pacs008 3 refl refl (λ z. omega arith),
-        body-counted Camt050 4 refl refl (λ z. omega arith),
-        body-counted Pacs028 5 refl refl (λ z. omega arith),
-      )
+      ∙ rw (bodies-counted s n starts depths, body-counted Pacs008, body-counted Camt050, body-counted Pacs028)

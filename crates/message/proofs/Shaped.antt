@@ -5,7 +5,7 @@ use mathlib.Core.Path.{_≡_, refl, ap, subst}
 use mathlib.Core.Bool.{Bool, true, false, not, _&&_, _||_, cond, false≢true}
 use mathlib.Core.List.{List, [], _∷_}
 use mathlib.Core.Option.{none, some}
-use Prim.Native.Nat.{ℕ, zero, suc, _+_, _*_, _≤_, _<_}
+use Prim.Native.Nat.{ℕ, zero, suc, _+_, _-_, _*_, _≤_, _<_}
 use native.Mathlib.Omega.{arith}
 use native.Mathlib.Nat.{le-of-suc-le-suc}
 use lib.Dec.{leb, ltb, eqb, lit<}
@@ -31,11 +31,12 @@ use Rattle.table.specs.declared.Kind.the-variants.{Pacs008, Camt050, Pacs028}
 use Rattle.message.specs.declared.kinds.Shape.{Shape}
 use Rattle.message.specs.declared.kinds.Shape.the-variants.{Identifier as Named, Time as Timed, Uetr as Traced, Amount as Paid}
 use Rattle.message.specs.declared.kinds.Ccy.{Ccy}
+use Rattle.message.specs.declared.kinds.Numbers.{Numbers}
 use Rattle.message.specs.declared.Answer.{Answer}
 use Rattle.message.specs.declared.Answer.the-variants.{IllFormed, BadField, Good}
 use Rattle.message.specs.declared.Message.{Message}
-use Rattle.message.specs.Fields.{Field, fieldsOf, pacs008Fields, camt050Fields, pacs028Fields, byKind}
-use Rattle.message.specs.Good.{Held, missing, once, doubled, heldIn, isGiven, hasShape, ccyFits, textFits, isGood}
+use Rattle.message.specs.Fields.{Field, fieldsOf, pacs008Fields, camt050Fields, pacs028Fields, pacs008Numbers, camt050Numbers, pacs028Numbers, numbersOf}
+use Rattle.message.specs.Good.{Held, missing, once, doubled, heldIn, isGiven, hasShape, ccyFits, textFits, isGood, goesWith}
 use Rattle.message.specs.Message.{textIn, numbered, nameOf, messageFrom, messageOf}
 use Rattle.message.specs.Received.{kindOf, heldOf, receivedAs, receivedFrom, receivedOf}
 use Rattle.message.specs.Seen.{noField}
@@ -170,16 +171,20 @@ message-in m (IllFormed place) = m
 message-in m (BadField number) = m
 message-in m (Good message) = message
 
+-- what is not false is true
+holds : (t : Bool) → (t ≡ false → ⊥) → t ≡ true
+holds true h = refl
+holds false h = absurd (h refl)
+
 module _ (rows : List Row) where
   abbrev NoneBad : Kind → Type 0
   NoneBad kind = (j : ℕ) → Bad kind rows j → ⊥
 
   field-fine : (kind : Kind) → NoneBad kind → (j : ℕ) → j < length (fieldsOf kind) → fine rows (getD (fieldsOf kind) j noField) ≡ true
-  field-fine kind fault j h = go (fine rows (getD (fieldsOf kind) j noField)) refl
-    where
-      go : (t : Bool) → fine rows (getD (fieldsOf kind) j noField) ≡ t → t ≡ true
-      go true e = refl
-      go false e = absurd (fault j (record { numbered = h; faulty = e }))
+  field-fine kind fault j h =
+      let alone = fine rows (getD (fieldsOf kind) j noField) in
+      let beside = goesWith kind (suc j) (heldOf kind rows) in
+      and-left alone beside (holds (alone && beside) (λ e. fault j (record { numbered = h; faulty = e })))
 
   -- where no field is bad, the text of each field that may not be missing has the field's shape
   must-fit : (f : Field) → f .optional ≡ false → fine rows f ≡ true → hasShape (f .shape) (textIn (heldIn (standing (f .path) rows))) ≡ true
@@ -187,37 +192,47 @@ module _ (rows : List Row) where
       let h = heldIn (standing (f .path) rows) in
       text-shaped (f .shape) (f .ccy) h (subst (λ (o : Bool). isGood o (f .shape) (f .ccy) h ≡ true) must e)
 
-  fits-at : (kind : Kind) → NoneBad kind → (j : ℕ) → j < length (fieldsOf kind) → getD (fieldsOf kind) j noField .optional ≡ false
-      → hasShape (getD (fieldsOf kind) j noField .shape) (textIn (heldIn (standing (getD (fieldsOf kind) j noField .path) rows))) ≡ true
-  fits-at kind fault j h must = must-fit (getD (fieldsOf kind) j noField) must (field-fine kind fault j h)
+  -- the field with a number stands one place before it in the table
+  abbrev fieldAt : Kind → ℕ → Field
+  fieldAt kind number = getD (fieldsOf kind) (number - 1) noField
 
-  -- the text with a number; the place of its field in the table is one less
+  fits-at : (kind : Kind) → NoneBad kind → (number : ℕ) → number - 1 < length (fieldsOf kind) → fieldAt kind number .optional ≡ false
+      → hasShape (fieldAt kind number .shape) (textIn (heldIn (standing (fieldAt kind number .path) rows))) ≡ true
+  fits-at kind fault number h must = must-fit (fieldAt kind number) must (field-fine kind fault (number - 1) h)
+
+  -- the text with a number
   abbrev textOf : Kind → ℕ → List ℕ
   textOf kind k = textIn (numbered (heldOf kind rows) k)
 
   kind-shaped : (kind : Kind) → NoneBad kind → Shaped (messageOf kind (heldOf kind rows))
-  unfolding messageOf messageFrom nameOf byKind heldOf fieldsOf pacs008Fields camt050Fields pacs028Fields textIn
-  kind-shaped Pacs008 fault = record {
-    identifier = identifier-shaped (textOf Pacs008 1) (fits-at Pacs008 fault 0 (lit< tt) refl);
-    created = time-shaped (textOf Pacs008 2) (fits-at Pacs008 fault 1 (lit< tt) refl);
-    uetr = uetr-shaped (textOf Pacs008 6) (fits-at Pacs008 fault 5 (lit< tt) refl);
-    reference = identifier-shaped (textOf Pacs008 5) (fits-at Pacs008 fault 4 (lit< tt) refl);
-    amount = amount-shaped (textOf Pacs008 7) (fits-at Pacs008 fault 6 (lit< tt) refl);
-  }
-  kind-shaped Camt050 fault = record {
-    identifier = identifier-shaped (textOf Camt050 1) (fits-at Camt050 fault 0 (lit< tt) refl);
-    created = time-shaped (textOf Camt050 2) (fits-at Camt050 fault 1 (lit< tt) refl);
-    uetr = uetr-shaped (textOf Camt050 3) (fits-at Camt050 fault 2 (lit< tt) refl);
-    reference = empty-identifier;
-    amount = amount-shaped (textOf Camt050 4) (fits-at Camt050 fault 3 (lit< tt) refl);
-  }
-  kind-shaped Pacs028 fault = record {
-    identifier = identifier-shaped (textOf Pacs028 1) (fits-at Pacs028 fault 0 (lit< tt) refl);
-    created = time-shaped (textOf Pacs028 2) (fits-at Pacs028 fault 1 (lit< tt) refl);
-    uetr = uetr-shaped (textOf Pacs028 7) (fits-at Pacs028 fault 6 (lit< tt) refl);
-    reference = identifier-shaped (textOf Pacs028 8) (fits-at Pacs028 fault 7 (lit< tt) refl);
-    amount = tt;
-  }
+  unfolding messageOf messageFrom nameOf numbersOf heldOf fieldsOf pacs008Fields camt050Fields pacs028Fields textIn
+  kind-shaped Pacs008 fault =
+      let of : Numbers = pacs008Numbers in
+      record {
+        identifier = identifier-shaped (textOf Pacs008 (of .id)) (fits-at Pacs008 fault (of .id) (lit< tt) refl);
+        created = time-shaped (textOf Pacs008 (of .created)) (fits-at Pacs008 fault (of .created) (lit< tt) refl);
+        uetr = uetr-shaped (textOf Pacs008 (of .uetr)) (fits-at Pacs008 fault (of .uetr) (lit< tt) refl);
+        reference = identifier-shaped (textOf Pacs008 (of .reference)) (fits-at Pacs008 fault (of .reference) (lit< tt) refl);
+        amount = amount-shaped (textOf Pacs008 (of .amount)) (fits-at Pacs008 fault (of .amount) (lit< tt) refl);
+      }
+  kind-shaped Camt050 fault =
+      let of : Numbers = camt050Numbers in
+      record {
+        identifier = identifier-shaped (textOf Camt050 (of .id)) (fits-at Camt050 fault (of .id) (lit< tt) refl);
+        created = time-shaped (textOf Camt050 (of .created)) (fits-at Camt050 fault (of .created) (lit< tt) refl);
+        uetr = uetr-shaped (textOf Camt050 (of .uetr)) (fits-at Camt050 fault (of .uetr) (lit< tt) refl);
+        reference = empty-identifier;
+        amount = amount-shaped (textOf Camt050 (of .amount)) (fits-at Camt050 fault (of .amount) (lit< tt) refl);
+      }
+  kind-shaped Pacs028 fault =
+      let of : Numbers = pacs028Numbers in
+      record {
+        identifier = identifier-shaped (textOf Pacs028 (of .id)) (fits-at Pacs028 fault (of .id) (lit< tt) refl);
+        created = time-shaped (textOf Pacs028 (of .created)) (fits-at Pacs028 fault (of .created) (lit< tt) refl);
+        uetr = uetr-shaped (textOf Pacs028 (of .uetr)) (fits-at Pacs028 fault (of .uetr) (lit< tt) refl);
+        reference = identifier-shaped (textOf Pacs028 (of .reference)) (fits-at Pacs028 fault (of .reference) (lit< tt) refl);
+        amount = tt;
+      }
 
   -- an answer that is a message is told of a sheet without a bad field
   told-shaped : (a : Answer) (m : Message) → Told rows a → a ≡ Good m → Shaped m

@@ -16,7 +16,7 @@ use Rattle.sheet.specs.Reader.{while, shownAt}
 use Rattle.sheet.proofs.While.{take-while, while-inside}
 use Rattle.outline.specs.Rows.{ccyAt, insideAt, hasText, textAt}
 use Rattle.outline.specs.Paths.{charactersOf}
-use Rattle.message.specs.Fields.{Field}
+use Rattle.message.specs.Fields.{Field, fieldsMost}
 use Rattle.message.specs.Good.{Held, missing, once, doubled}
 use Rattle.message.specs.Message.{textIn, startIn, lengthIn, numbered, messageFrom}
 use Rattle.message.specs.Received.{byNumber, shownIn}
@@ -96,7 +96,7 @@ values-have f e (h ∷ held) n (suc k) = values-have f e held n k
 
 by-number : (f : Held → ℕ) → f missing ≡ 0 → (held : List Held) (k : ℕ) → getD (byNumber (map f held)) k 0 ≡ f (numbered held k)
 by-number f e held zero = sym e
-by-number f e held (suc k) = values-have f e held (14 - length (map f held)) k
+by-number f e held (suc k) = values-have f e held (fieldsMost - length (map f held)) k
 
 module _ (s : List ℕ) (held : List Held) (st : (k : ℕ) → Stands s (numbered held k)) where
   -- the part that is shown for a number is the text of the field with that number

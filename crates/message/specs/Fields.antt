@@ -15,6 +15,7 @@ use Rattle.message.specs.declared.kinds.Shape.{Shape}
 use Rattle.message.specs.declared.kinds.Shape.the-variants.{Identifier, Time, Code, System, Uetr, Amount, Iban, Account, Original}
 use Rattle.message.specs.declared.kinds.Ccy.{Ccy}
 use Rattle.message.specs.declared.kinds.Ccy.the-variants.{Absent, Any, Hryvnia}
+use Rattle.message.specs.declared.kinds.Numbers.{Numbers}
 
 -- a field: its path of names, innermost first; whether it may be missing; what its text has to be; whether it has a Ccy
 pub record Field : Type 0 where
@@ -96,8 +97,71 @@ bodyOf Pacs008 = pathOf "/Document/FIToFICstmrCdtTrf"
 bodyOf Camt050 = pathOf "/Document/LqdyCdtTrf"
 bodyOf Pacs028 = pathOf "/Document/FIToFIPmtStsReq"
 
--- of three numbers the one for a kind
-unfoldable pub byKind : Kind → ℕ → ℕ → ℕ → ℕ
-byKind Pacs008 a b c = a
-byKind Camt050 a b c = b
-byKind Pacs028 a b c = c
+-- the most fields that a kind has
+abbrev pub fieldsMost : ℕ
+fieldsMost = 14
+
+-- the numbers of a kind's fields by what they say; 0 for a field that the kind lacks. No part of a message is made of field 11 of pacs.008, the
+-- IBAN of DbtrAcct, which only has to have its shape. That each number is that of the field whose path ends so is a computed test
+-- (`proofs/Tables.antt`)
+abbrev pub pacs008Numbers : Numbers
+pacs008Numbers = record {
+  id = 1;
+  created = 2;
+  instructing = 3;
+  instructed = 4;
+  reference = 5;
+  uetr = 6;
+  amount = 7;
+  previous = 8;
+  debtor = record { system = 9; code = 10 };
+  creditor = record { system = 12; code = 13 };
+  iban = 14;
+  debit = 0;
+  credit = 0;
+  original = 0;
+  originated = 0;
+}
+
+abbrev pub camt050Numbers : Numbers
+camt050Numbers = record {
+  id = 1;
+  created = 2;
+  instructing = 0;
+  instructed = 0;
+  reference = 0;
+  uetr = 3;
+  amount = 4;
+  previous = 0;
+  debtor = record { system = 0; code = 0 };
+  creditor = record { system = 0; code = 0 };
+  iban = 0;
+  debit = 5;
+  credit = 6;
+  original = 0;
+  originated = 0;
+}
+
+abbrev pub pacs028Numbers : Numbers
+pacs028Numbers = record {
+  id = 1;
+  created = 2;
+  instructing = 3;
+  instructed = 0;
+  reference = 8;
+  uetr = 7;
+  amount = 0;
+  previous = 0;
+  debtor = record { system = 0; code = 0 };
+  creditor = record { system = 0; code = 0 };
+  iban = 0;
+  debit = 0;
+  credit = 0;
+  original = 4;
+  originated = 6;
+}
+
+unfoldable pub numbersOf : Kind → Numbers
+numbersOf Pacs008 = pacs008Numbers
+numbersOf Camt050 = camt050Numbers
+numbersOf Pacs028 = pacs028Numbers

@@ -1,4 +1,4 @@
--- When a field is good, and the first that is not: document 01, "Fields" and refusal 8.
+-- When a field is good, and the lowest number of one that is not: document 01, "Fields" and refusal 8.
 -- A field is bad where it is missing and may not be, where its path stands more than once, and where it is ill-shaped: it holds elements, it
 -- has a Ccy and is no amount or has none and is one, or its text is not of its shape.
 use mathlib.Core.Bool.{Bool, true, false, _&&_, _||_, cond}
@@ -14,11 +14,13 @@ use Rattle.shape.specs.declared.value.Value.{Value}
 use Rattle.shape.specs.declared.value.Value.the-variants.{Of, None}
 use Rattle.outline.specs.Rows.{Row}
 use Rattle.outline.specs.Paths.{charactersOf}
+use Rattle.table.specs.declared.Kind.{Kind}
+use Rattle.table.specs.declared.Kind.the-variants.{Pacs008, Camt050, Pacs028}
 use Rattle.message.specs.declared.kinds.Shape.{Shape}
 use Rattle.message.specs.declared.kinds.Shape.the-variants.{Identifier, Time, Code, System, Uetr, Amount, Iban, Account, Original}
 use Rattle.message.specs.declared.kinds.Ccy.{Ccy}
 use Rattle.message.specs.declared.kinds.Ccy.the-variants.{Absent, Any, Hryvnia}
-use Rattle.message.specs.Fields.{Field}
+use Rattle.message.specs.Fields.{Field, fieldsOf}
 
 -- what stands at a field's path: nothing; one element, with its Ccy, where its content begins, and its text; or more than one
 pub data Held : Type 0 where
@@ -67,8 +69,21 @@ isGood optional shape ccy missing = optional
 isGood optional shape ccy (once given inside text) = ccyFits ccy given && textFits shape text
 isGood optional shape ccy doubled = false
 
--- the number of the first bad field, where the fields are numbered from k on and hold this; 0 where all are good
-unfoldable pub firstBad : ℕ → List Field → List Held → ℕ
-firstBad k [] held = 0
-firstBad k (f ∷ fields) [] = 0
-firstBad k (f ∷ fields) (h ∷ held) = cond (isGood (f .optional) (f .shape) (f .ccy) h) (firstBad (suc k) fields held) k
+-- a rule between two fields of a kind, by the number of the later one: whether what it holds goes with what the others hold. Document 01 has no
+-- such rule: every field of its kinds is judged by itself
+unfoldable pub goesWith : Kind → ℕ → List Held → Bool
+goesWith Pacs008 number held = true
+goesWith Camt050 number held = true
+goesWith Pacs028 number held = true
+
+-- the number of the first field that is not good or does not go with the others, where the fields are numbered from k on and hold this; 0 where
+-- there is none
+unfoldable pub firstBad : (ℕ → Bool) → ℕ → List Field → List Held → ℕ
+firstBad goes k [] held = 0
+firstBad goes k (f ∷ fields) [] = 0
+firstBad goes k (f ∷ fields) (h ∷ held) =
+    cond (isGood (f .optional) (f .shape) (f .ccy) h && goes k) (firstBad goes (suc k) fields held) k
+
+-- the lowest number of a bad field of a kind whose fields hold this
+abbrev pub lowestBad : Kind → List Held → ℕ
+lowestBad kind held = firstBad (λ (number : ℕ). goesWith kind number held) 1 (fieldsOf kind) held

@@ -1,7 +1,7 @@
 -- Refusal 8 in document 01's words, for a sheet that is well formed: unknown, 8 with 0; else 8 with the lowest number of a bad field; else the
 -- message. That the answer of `Received` is this one, and that no second answer is, is the theorem of `proofs/Lowest.antt`.
 use mathlib.Core.Path.{_≡_}
-use mathlib.Core.Bool.{Bool, false}
+use mathlib.Core.Bool.{Bool, false, _&&_}
 use mathlib.Core.List.{List}
 use Prim.Native.Nat.{ℕ, suc, _≤_, _<_}
 use lib.ListN.{length, getD}
@@ -12,19 +12,19 @@ use Rattle.message.specs.declared.kinds.Body.the-variants.{Of, Unknown}
 use Rattle.message.specs.declared.Answer.{Answer}
 use Rattle.message.specs.declared.Answer.the-variants.{BadField, Good}
 use Rattle.message.specs.Fields.{Field, fieldsOf}
-use Rattle.message.specs.Good.{heldIn, isGood}
+use Rattle.message.specs.Good.{heldIn, isGood, goesWith}
 use Rattle.message.specs.Message.{messageOf}
 use Rattle.message.specs.Received.{kindOf, heldOf}
 use Rattle.message.specs.Seen.{noField}
 
--- a field is neither missing, unless it may be, nor doubled nor ill-shaped
+-- by itself a field is neither missing, unless it may be, nor doubled nor ill-shaped
 abbrev pub fine : List Row → Field → Bool
 fine rows f = isGood (f .optional) (f .shape) (f .ccy) (heldIn (standing (f .path) rows))
 
--- the field with the number i + 1 is bad
+-- the field with the number i + 1 is bad: by itself, or by a rule between fields, of which document 01 has none
 pub record Bad (kind : Kind) (rows : List Row) (i : ℕ) : Type 0 where
   pub numbered : i < length (fieldsOf kind)
-  pub faulty : fine rows (getD (fieldsOf kind) i noField) ≡ false
+  pub faulty : (fine rows (getD (fieldsOf kind) i noField) && goesWith kind (suc i) (heldOf kind rows)) ≡ false
 
 pub data Told (rows : List Row) : Answer → Type 0 where
   unknown : kindOf rows ≡ Unknown → Told rows (BadField 0)

@@ -12,10 +12,11 @@ use Rattle.shape.specs.declared.value.Value.{Value}
 use Rattle.remainder.specs.Remainder.{remainderOf}
 use Rattle.table.specs.declared.Kind.{Kind}
 use Rattle.outline.specs.Paths.{charactersOf}
+use Rattle.message.specs.declared.kinds.Numbers.{Numbers}
 use Rattle.message.specs.declared.Name.{Name}
 use Rattle.message.specs.declared.Agent.{Agent}
 use Rattle.message.specs.declared.Message.{Message}
-use Rattle.message.specs.Fields.{byKind}
+use Rattle.message.specs.Fields.{numbersOf}
 use Rattle.message.specs.Good.{Held, missing, once, doubled}
 
 -- what an element that stands once holds: its text's characters, its Ccy, where its text begins and how long it is
@@ -56,33 +57,29 @@ nameOf s = record { stored = identifierOf s; code = messageCodeOf s }
 unfoldable pub agentOf : List ℕ → List ℕ → Agent
 agentOf system code = record { system = systemOf system; code = codeOf code }
 
--- by the number of the field in pacs.008, camt.050 and pacs.028; 0 where the kind has no such field
+-- each part by the number of its field in the kind
 unfoldable pub messageFrom : Kind → (ℕ → List ℕ) → Value → Message
 messageFrom kind text currency =
-    let of : ℕ → ℕ → ℕ → List ℕ = λ a b c. text (byKind kind a b c) in
+    let of : Numbers = numbersOf kind in
     record {
       kind = kind;
-      id = nameOf (of 1 1 1);
-      created = timeOf (of 2 2 2);
-      instructing = codeOf (of 3 0 3);
-      instructed = codeOf (of 4 0 0);
-      reference = identifierOf (of 5 0 8);
-      uetr = uetrOf (of 6 3 7);
-      amount = amountOf (of 7 4 0);
+      id = nameOf (text (of .id));
+      created = timeOf (text (of .created));
+      instructing = codeOf (text (of .instructing));
+      instructed = codeOf (text (of .instructed));
+      reference = identifierOf (text (of .reference));
+      uetr = uetrOf (text (of .uetr));
+      amount = amountOf (text (of .amount));
       currency = currency;
-      previous = codeOf (of 8 0 0);
-      debtor = agentOf (of 9 0 0) (of 10 0 0);
-      creditor = agentOf (of 12 0 0) (of 13 0 0);
-      iban = remainderOf (of 14 0 0);
-      debit = accountOf (of 0 5 0);
-      credit = accountOf (of 0 6 0);
-      original = nameOf (of 0 0 4);
-      originated = timeOf (of 0 0 6);
+      previous = codeOf (text (of .previous));
+      debtor = agentOf (text (of .debtor .system)) (text (of .debtor .code));
+      creditor = agentOf (text (of .creditor .system)) (text (of .creditor .code));
+      iban = remainderOf (text (of .iban));
+      debit = accountOf (text (of .debit));
+      credit = accountOf (text (of .credit));
+      original = nameOf (text (of .original));
+      originated = timeOf (text (of .originated));
     }
 
--- the number of the amount
-abbrev pub amountNumber : Kind → ℕ
-amountNumber kind = byKind kind 7 4 0
-
 unfoldable pub messageOf : Kind → List Held → Message
-messageOf kind held = messageFrom kind (λ (k : ℕ). textIn (numbered held k)) (currencyOf (ccyIn (numbered held (amountNumber kind))))
+messageOf kind held = messageFrom kind (λ (k : ℕ). textIn (numbered held k)) (currencyOf (ccyIn (numbered held (numbersOf kind .amount))))

@@ -16,8 +16,8 @@ use Rattle.message.specs.declared.kinds.Body.the-variants.{Of, Unknown}
 use Rattle.message.specs.declared.Answer.{Answer}
 use Rattle.message.specs.declared.Answer.the-variants.{IllFormed, BadField, Good}
 use Rattle.message.specs.declared.Received.{Received}
-use Rattle.message.specs.Fields.{Field, fieldsOf, bodyOf}
-use Rattle.message.specs.Good.{Held, heldIn, firstBad}
+use Rattle.message.specs.Fields.{Field, fieldsOf, bodyOf, fieldsMost}
+use Rattle.message.specs.Good.{Held, heldIn, lowestBad}
 use Rattle.message.specs.Message.{textIn, startIn, lengthIn, numbered, messageOf}
 
 -- the number of an answer in the table of refusals, and its detail: the place, the field
@@ -47,10 +47,6 @@ kindOf rows = onlyKind (atDepth 2 rows)
 unfoldable pub heldOf : Kind → List Row → List Held
 heldOf kind rows = map (λ (f : Field). heldIn (standing (f .path) rows)) (fieldsOf kind)
 
--- the most fields that a kind has
-abbrev pub fieldsMost : ℕ
-fieldsMost = 14
-
 -- by the number of a field: at 0, and behind the last field, 0
 abbrev pub byNumber : List ℕ → List ℕ
 byNumber values = 0 ∷ (values ++ replicate (fieldsMost - length values) 0)
@@ -69,7 +65,7 @@ judged kind held bad =
     (refusal (BadField bad))
 
 unfoldable pub receivedIn : Kind → List Held → Received
-receivedIn kind held = judged kind held (firstBad 1 (fieldsOf kind) held)
+receivedIn kind held = judged kind held (lowestBad kind held)
 
 -- 8 with 0 where the message is unknown
 unfoldable pub receivedAs : Body → List Row → Received
@@ -88,14 +84,14 @@ receivedOf s = receivedFrom s (readingOf s)
 unfoldable pub shownIn : List ℕ → List ℕ → List ℕ → ℕ → List ℕ
 shownIn s starts lengths k = shownAt s (getD starts k 0) (getD lengths k 0)
 
--- and of what was received: no field has a number above 14
+-- and of what was received: no field has a number above the most
 unfoldable pub fieldShown : List ℕ → Received → ℕ → List ℕ
 fieldShown s received k = cond (leb k fieldsMost) (shownIn s (received .starts) (received .lengths) k) []
 
 -- the text of the field with a number in the message that a sheet is; nothing where it is no message, or the field is not given
 unfoldable pub fieldAs : Body → List Row → ℕ → List ℕ
 fieldAs Unknown rows k = []
-fieldAs (Of kind) rows k = cond (eqb (firstBad 1 (fieldsOf kind) (heldOf kind rows)) 0) (textIn (numbered (heldOf kind rows) k)) []
+fieldAs (Of kind) rows k = cond (eqb (lowestBad kind (heldOf kind rows)) 0) (textIn (numbered (heldOf kind rows) k)) []
 
 unfoldable pub fieldFrom : List ℕ → Reading → ℕ → List ℕ
 fieldFrom s (refused place) k = []

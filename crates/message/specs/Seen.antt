@@ -34,11 +34,15 @@ unfoldable pub heldSeen : List ℕ → Kind → List ℕ → List ℕ → List H
 heldSeen s kind counts starts =
     map (λ (f : Field). heldAt s (getD counts (nodeOf (f .path)) 0) (getD starts (nodeOf (f .path)) 0)) (fieldsOf kind)
 
+-- how often the path that names a kind is counted
+abbrev pub bodiesSeen : Kind → List ℕ → ℕ
+bodiesSeen kind counts = getD counts (nodeOf (bodyOf kind)) 0
+
 unfoldable pub kindSeen : ℕ → List ℕ → Body
 kindSeen bodies counts =
     cond (eqb bodies 1)
-    (cond (eqb (getD counts 3 0) 1) (Of Pacs008)
-    (cond (eqb (getD counts 4 0) 1) (Of Camt050)
-    (cond (eqb (getD counts 5 0) 1) (Of Pacs028)
+    (cond (eqb (bodiesSeen Pacs008 counts) 1) (Of Pacs008)
+    (cond (eqb (bodiesSeen Camt050 counts) 1) (Of Camt050)
+    (cond (eqb (bodiesSeen Pacs028 counts) 1) (Of Pacs028)
     Unknown)))
     Unknown

@@ -3,6 +3,7 @@ use crate::kinds::Ccy;
 use crate::kinds::Entry;
 use crate::kinds::Shape;
 use outline::parts_at;
+use paths::NODES;
 use shape::date::time_of;
 use shape::field::code_of;
 use shape::field::is_amount;
@@ -13,13 +14,15 @@ use shape::pattern::matches;
 use shape::stored::is_uetr;
 use shape::value::Value;
 use sheet::shown_at;
+use table::Kind;
 ghost use mathlib.Core.Path.{_≡_};
 ghost use mathlib.Core.Bool.{true, cond};
 ghost use mathlib.Core.Option.{some, none};
 ghost use Prim.Native.Nat.{_+_, _≤_};
 ghost use lib.ListN.{length, take, drop};
-ghost use Rattle.message.specs.Good.{isGiven, hasShape, ccyFits, isGood};
-ghost use Rattle.message.specs.Seen.{heldAt};
+ghost use Rattle.paths.specs.Tree.{nodes};
+ghost use Rattle.message.specs.Good.{isGiven, hasShape, ccyFits, isGood, goesWith};
+ghost use Rattle.message.specs.Seen.{heldAt, heldSeen};
 
 fn is_given(value: Value) -> bool
     ensures { λ r. ⌜ r ≡ isGiven value ⌝ }
@@ -63,6 +66,24 @@ fn ccy_fits(s: &[u8], wanted: Ccy, given: bool, to: usize) -> bool
         Ccy::Absent => false,
         Ccy::Any => true,
         Ccy::Hryvnia => matches(b"UAH", shown_at(s, to + 6, 3)),
+    }
+}
+
+// Whether a field goes with the others of its kind, by its number. Document 01 has no rule between two fields.
+pub fn goes_with(
+    s: &[u8],
+    kind: Kind,
+    number: usize,
+    counts: &[usize; NODES],
+    starts: &[usize; NODES],
+) -> bool
+    requires { ⌜ (nodes ≤ length (now counts)) × (nodes ≤ length (now starts)) ⌝ }
+    ensures { λ r. ⌜ r ≡ goesWith kind number (heldSeen (now (s .entry)) kind (now (counts .entry)) (now (starts .entry))) ⌝ }
+{
+    match kind {
+        Kind::Pacs008 => true,
+        Kind::Camt050 => true,
+        Kind::Pacs028 => true,
     }
 }
 

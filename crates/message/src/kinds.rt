@@ -1,11 +1,13 @@
 // The fields of each kind of message: document 01, "Fields". A field's number is its place in the kind's table, from 1 on.
+// `tests/tree.py` writes each node, of a body and of a field, from the paths in `specs/Fields.antt`.
+use paths::NODES;
 use table::Kind;
 ghost use mathlib.Core.Path.{_≡_};
 ghost use mathlib.Core.Bool.{cond};
 ghost use Prim.Native.Nat.{_<_, _≤_};
 ghost use lib.ListN.{length, getD};
-ghost use Rattle.paths.specs.Tree.{nodeOf};
-ghost use Rattle.message.specs.Fields.{pacs008Fields, camt050Fields, pacs028Fields, fieldsOf, byKind};
+ghost use Rattle.paths.specs.Tree.{nodes};
+ghost use Rattle.message.specs.Fields.{pacs008Fields, camt050Fields, pacs028Fields, fieldsOf, fieldsMost, numbersOf};
 ghost use Rattle.message.specs.Seen.{noField, entryOf, kindSeen};
 
 // What a field's text has to be.
@@ -42,7 +44,48 @@ pub enum Body {
     Unknown,
 }
 
-const PACS_008: [Entry; 14] = [
+// The numbers of an agent's two fields: which system lists it, and its code.
+pub struct AgentNumbers {
+    pub system: usize,
+    pub code: usize,
+}
+
+// The numbers of a kind's fields by what they say; 0 for a field that the kind lacks.
+pub struct Numbers {
+    pub id: usize,
+    pub created: usize,
+    pub instructing: usize,
+    pub instructed: usize,
+    pub reference: usize,
+    pub uetr: usize,
+    pub amount: usize,
+    pub previous: usize,
+    pub debtor: AgentNumbers,
+    pub creditor: AgentNumbers,
+    pub iban: usize,
+    pub debit: usize,
+    pub credit: usize,
+    pub original: usize,
+    pub originated: usize,
+}
+
+// How many fields each kind has, and the most that one has.
+const PACS_008_FIELDS: usize = 14;
+
+const CAMT_050_FIELDS: usize = 6;
+
+const PACS_028_FIELDS: usize = 8;
+
+pub const FIELDS_MOST: usize = PACS_008_FIELDS;
+
+// The node of the path that names each kind.
+const PACS_008_BODY: usize = 3;
+
+const CAMT_050_BODY: usize = 4;
+
+const PACS_028_BODY: usize = 5;
+
+const PACS_008: [Entry; PACS_008_FIELDS] = [
     Entry {
         node: 12,
         optional: false,
@@ -129,7 +172,7 @@ const PACS_008: [Entry; 14] = [
     },
 ];
 
-const CAMT_050: [Entry; 6] = [
+const CAMT_050: [Entry; CAMT_050_FIELDS] = [
     Entry {
         node: 23,
         optional: false,
@@ -168,7 +211,7 @@ const CAMT_050: [Entry; 6] = [
     },
 ];
 
-const PACS_028: [Entry; 8] = [
+const PACS_028: [Entry; PACS_028_FIELDS] = [
     Entry {
         node: 26,
         optional: false,
@@ -219,22 +262,83 @@ const PACS_028: [Entry; 8] = [
     },
 ];
 
+// No part of a message is made of field 11 of pacs.008, the IBAN of DbtrAcct, which only has to have its shape.
+const PACS_008_NUMBERS: Numbers = Numbers {
+    id: 1,
+    created: 2,
+    instructing: 3,
+    instructed: 4,
+    reference: 5,
+    uetr: 6,
+    amount: 7,
+    previous: 8,
+    debtor: AgentNumbers {
+        system: 9,
+        code: 10,
+    },
+    creditor: AgentNumbers {
+        system: 12,
+        code: 13,
+    },
+    iban: 14,
+    debit: 0,
+    credit: 0,
+    original: 0,
+    originated: 0,
+};
+
+const CAMT_050_NUMBERS: Numbers = Numbers {
+    id: 1,
+    created: 2,
+    instructing: 0,
+    instructed: 0,
+    reference: 0,
+    uetr: 3,
+    amount: 4,
+    previous: 0,
+    debtor: AgentNumbers { system: 0, code: 0 },
+    creditor: AgentNumbers { system: 0, code: 0 },
+    iban: 0,
+    debit: 5,
+    credit: 6,
+    original: 0,
+    originated: 0,
+};
+
+const PACS_028_NUMBERS: Numbers = Numbers {
+    id: 1,
+    created: 2,
+    instructing: 3,
+    instructed: 0,
+    reference: 8,
+    uetr: 7,
+    amount: 0,
+    previous: 0,
+    debtor: AgentNumbers { system: 0, code: 0 },
+    creditor: AgentNumbers { system: 0, code: 0 },
+    iban: 0,
+    debit: 0,
+    credit: 0,
+    original: 4,
+    originated: 6,
+};
+
 fn pacs_008(place: usize) -> Entry
-    requires { ⌜ place < 14 ⌝ }
+    requires { ⌜ place < length pacs008Fields ⌝ }
     ensures { λ r. ⌜ r ≡ entryOf (getD pacs008Fields place noField) ⌝ }
 {
     PACS_008[place]
 }
 
 fn camt_050(place: usize) -> Entry
-    requires { ⌜ place < 6 ⌝ }
+    requires { ⌜ place < length camt050Fields ⌝ }
     ensures { λ r. ⌜ r ≡ entryOf (getD camt050Fields place noField) ⌝ }
 {
     CAMT_050[place]
 }
 
 fn pacs_028(place: usize) -> Entry
-    requires { ⌜ place < 8 ⌝ }
+    requires { ⌜ place < length pacs028Fields ⌝ }
     ensures { λ r. ⌜ r ≡ entryOf (getD pacs028Fields place noField) ⌝ }
 {
     PACS_028[place]
@@ -243,12 +347,12 @@ fn pacs_028(place: usize) -> Entry
 // How many fields a kind has.
 pub fn field_count(kind: Kind) -> usize
     ensures { λ r. ⌜ r ≡ length (fieldsOf kind) ⌝ }
-    ensures { λ r. ⌜ r ≤ 14 ⌝ }
+    ensures { λ r. ⌜ r ≤ fieldsMost ⌝ }
 {
     match kind {
-        Kind::Pacs008 => 14,
-        Kind::Camt050 => 6,
-        Kind::Pacs028 => 8,
+        Kind::Pacs008 => PACS_008_FIELDS,
+        Kind::Camt050 => CAMT_050_FIELDS,
+        Kind::Pacs028 => PACS_028_FIELDS,
     }
 }
 
@@ -256,7 +360,7 @@ pub fn field_count(kind: Kind) -> usize
 pub fn entry_at(kind: Kind, place: usize) -> Entry
     requires { ⌜ place < length (fieldsOf kind) ⌝ }
     ensures { λ r. ⌜ r ≡ entryOf (getD (fieldsOf kind) place noField) ⌝ }
-    ensures { λ r. ⌜ r .node < 73 ⌝ }
+    ensures { λ r. ⌜ r .node < nodes ⌝ }
 {
     match kind {
         Kind::Pacs008 => pacs_008(place),
@@ -265,32 +369,32 @@ pub fn entry_at(kind: Kind, place: usize) -> Entry
     }
 }
 
-// Of three numbers the one for a kind.
-pub fn by_kind(kind: Kind, pacs_008: usize, camt_050: usize, pacs_028: usize) -> usize
-    ensures { λ r. ⌜ r ≡ byKind kind pacs_008 camt_050 pacs_028 ⌝ }
+// The numbers of a kind's fields.
+pub fn numbers_of(kind: Kind) -> Numbers
+    ensures { λ r. ⌜ r ≡ numbersOf kind ⌝ }
 {
     match kind {
-        Kind::Pacs008 => pacs_008,
-        Kind::Camt050 => camt_050,
-        Kind::Pacs028 => pacs_028,
+        Kind::Pacs008 => PACS_008_NUMBERS,
+        Kind::Camt050 => CAMT_050_NUMBERS,
+        Kind::Pacs028 => PACS_028_NUMBERS,
     }
 }
 
 // The kind, by the number of elements below the outer one and by how often each kind's own stands.
-pub fn kind_of(bodies: usize, counts: &[usize; 73]) -> Body
-    requires { ⌜ 73 ≤ length (now counts) ⌝ }
+pub fn kind_of(bodies: usize, counts: &[usize; NODES]) -> Body
+    requires { ⌜ nodes ≤ length (now counts) ⌝ }
     ensures { λ r. ⌜ r ≡ kindSeen bodies (now (counts .entry)) ⌝ }
 {
     if bodies != 1 {
         return Body::Unknown;
     }
-    if counts[3] == 1 {
+    if counts[PACS_008_BODY] == 1 {
         return Body::Of(Kind::Pacs008);
     }
-    if counts[4] == 1 {
+    if counts[CAMT_050_BODY] == 1 {
         return Body::Of(Kind::Camt050);
     }
-    if counts[5] == 1 {
+    if counts[PACS_028_BODY] == 1 {
         return Body::Of(Kind::Pacs028);
     }
     Body::Unknown

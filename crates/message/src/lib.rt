@@ -6,14 +6,17 @@ mod fit;
 mod kinds;
 mod parts;
 
+use fit::goes_with;
 use fit::is_good;
 use kinds::Body;
-use kinds::by_kind;
+pub use kinds::FIELDS_MOST;
 use kinds::entry_at;
 use kinds::field_count;
 use kinds::kind_of;
+use kinds::numbers_of;
 use parts::ccy_of;
 use parts::spot_of;
+use paths::NODES;
 use paths::survey;
 use remainder::Mod97;
 use remainder::remainder;
@@ -35,12 +38,13 @@ use sheet::shown_at;
 use table::Kind;
 ghost use mathlib.Core.Path.{_≡_};
 ghost use mathlib.Core.List.{map};
-ghost use Prim.Native.Nat.{_≤_};
+ghost use Prim.Native.Nat.{_+_, _≤_};
 ghost use lib.ListN.{length};
-ghost use Rattle.message.specs.Fields.{fieldsOf, byKind};
+ghost use Rattle.paths.specs.Tree.{nodes};
+ghost use Rattle.message.specs.Fields.{fieldsMost, numbersOf};
 ghost use Rattle.shape.specs.Fields.{currencyOf};
-ghost use Rattle.message.specs.Good.{firstBad};
-ghost use Rattle.message.specs.Message.{nameOf, agentOf, startIn, lengthIn, ccyIn, numbered, amountNumber, messageFrom};
+ghost use Rattle.message.specs.Good.{lowestBad};
+ghost use Rattle.message.specs.Message.{nameOf, agentOf, startIn, lengthIn, ccyIn, numbered, messageFrom};
 ghost use Rattle.message.specs.Received.{refusal, byNumber, receivedIn, receivedOf, shownIn, fieldShown, fieldOf};
 ghost use Rattle.message.specs.Seen.{heldSeen};
 
@@ -100,14 +104,14 @@ pub enum Answer {
 // kind's last field and for a field that is not given there are zeros.
 pub struct Received {
     pub answer: Answer,
-    pub starts: [usize; 15],
-    pub lengths: [usize; 15],
+    pub starts: [usize; FIELDS_MOST + 1],
+    pub lengths: [usize; FIELDS_MOST + 1],
 }
 
 // Where the texts of the fields stand.
 struct Spots {
-    starts: [usize; 15],
-    lengths: [usize; 15],
+    starts: [usize; FIELDS_MOST + 1],
+    lengths: [usize; FIELDS_MOST + 1],
 }
 
 fn refused(answer: Answer) -> Received
@@ -115,38 +119,39 @@ fn refused(answer: Answer) -> Received
 {
     Received {
         answer,
-        starts: [0; 15],
-        lengths: [0; 15],
+        starts: [0; FIELDS_MOST + 1],
+        lengths: [0; FIELDS_MOST + 1],
     }
 }
 
 // The lowest number of a bad field, 0 where all are good.
-fn first_bad(s: &[u8], kind: Kind, counts: &[usize; 73], starts: &[usize; 73]) -> usize
-    requires { ⌜ (73 ≤ length (now counts)) × (73 ≤ length (now starts)) ⌝ }
-    ensures { λ r. ⌜ r ≡ firstBad 1 (fieldsOf kind) (heldSeen (now (s .entry)) kind (now (counts .entry)) (now (starts .entry))) ⌝ }
+fn first_bad(s: &[u8], kind: Kind, counts: &[usize; NODES], starts: &[usize; NODES]) -> usize
+    requires { ⌜ (nodes ≤ length (now counts)) × (nodes ≤ length (now starts)) ⌝ }
+    ensures { λ r. ⌜ r ≡ lowestBad kind (heldSeen (now (s .entry)) kind (now (counts .entry)) (now (starts .entry))) ⌝ }
 {
     let n = field_count(kind);
     let mut k = 0;
     while k < n {
         let e = entry_at(kind, k);
         let node = e.node;
-        if !is_good(s, e, counts[node], starts[node]) {
-            return k + 1;
-        }
+        let good = is_good(s, e, counts[node], starts[node]);
         k += 1;
+        if !(good & goes_with(s, kind, k, counts, starts)) {
+            return k;
+        }
     }
     0
 }
 
 // Where the text of each field stands.
-fn spots_of(s: &[u8], kind: Kind, counts: &[usize; 73], starts: &[usize; 73]) -> Spots
-    requires { ⌜ (73 ≤ length (now counts)) × (73 ≤ length (now starts)) ⌝ }
+fn spots_of(s: &[u8], kind: Kind, counts: &[usize; NODES], starts: &[usize; NODES]) -> Spots
+    requires { ⌜ (nodes ≤ length (now counts)) × (nodes ≤ length (now starts)) ⌝ }
     ensures { λ r. ⌜ r .starts ≡ byNumber (map startIn (heldSeen (now (s .entry)) kind (now (counts .entry)) (now (starts .entry)))) ⌝ }
     ensures { λ r. ⌜ r .lengths ≡ byNumber (map lengthIn (heldSeen (now (s .entry)) kind (now (counts .entry)) (now (starts .entry)))) ⌝ }
 {
     let n = field_count(kind);
-    let mut places = [0usize; 15];
-    let mut lengths = [0usize; 15];
+    let mut places = [0usize; FIELDS_MOST + 1];
+    let mut lengths = [0usize; FIELDS_MOST + 1];
     let mut k = 0;
     while k < n {
         let e = entry_at(kind, k);
@@ -163,11 +168,12 @@ fn spots_of(s: &[u8], kind: Kind, counts: &[usize; 73], starts: &[usize; 73]) ->
 }
 
 // The currency of the amount, where the kind has one.
-fn currency(s: &[u8], kind: Kind, counts: &[usize; 73], starts: &[usize; 73]) -> Value
-    requires { ⌜ (73 ≤ length (now counts)) × (73 ≤ length (now starts)) ⌝ }
-    ensures { λ r. ⌜ r ≡ currencyOf (ccyIn (numbered (heldSeen (now (s .entry)) kind (now (counts .entry)) (now (starts .entry))) (amountNumber kind))) ⌝ }
+fn currency(s: &[u8], kind: Kind, counts: &[usize; NODES], starts: &[usize; NODES]) -> Value
+    requires { ⌜ (nodes ≤ length (now counts)) × (nodes ≤ length (now starts)) ⌝ }
+    ensures { λ r. ⌜ r ≡ currencyOf (ccyIn (numbered (heldSeen (now (s .entry)) kind (now (counts .entry)) (now (starts .entry))) (numbersOf kind .amount))) ⌝ }
 {
-    let number = by_kind(kind, 7, 4, 0);
+    let numbers = numbers_of(kind);
+    let number = numbers.amount;
     if number == 0 {
         return Value::None;
     }
@@ -177,8 +183,13 @@ fn currency(s: &[u8], kind: Kind, counts: &[usize; 73], starts: &[usize; 73]) ->
 }
 
 // The field with a number as that part of the sheet.
-fn shown<'a>(s: &'a [u8], starts: &[usize; 15], lengths: &[usize; 15], number: usize) -> &'a [u8]
-    requires { ⌜ (15 ≤ length (now starts)) × (15 ≤ length (now lengths)) × (number ≤ 14) ⌝ }
+fn shown<'a>(
+    s: &'a [u8],
+    starts: &[usize; FIELDS_MOST + 1],
+    lengths: &[usize; FIELDS_MOST + 1],
+    number: usize,
+) -> &'a [u8]
+    requires { ⌜ (fieldsMost + 1 ≤ length (now starts)) × (fieldsMost + 1 ≤ length (now lengths)) × (number ≤ fieldsMost) ⌝ }
     ensures { λ r. ⌜ now r ≡ shownIn (now (s .entry)) (now (starts .entry)) (now (lengths .entry)) number ⌝ }
 {
     shown_at(s, starts[number], lengths[number])
@@ -202,68 +213,48 @@ fn agent_of(system: &[u8], code: &[u8]) -> Agent
     }
 }
 
-// The characters of the field that has these numbers in pacs.008, camt.050 and pacs.028. They are the part's own bytes.
-fn text<'a>(
-    s: &'a [u8],
-    kind: Kind,
-    starts: &[usize; 15],
-    lengths: &[usize; 15],
-    pacs_008: usize,
-    camt_050: usize,
-    pacs_028: usize,
-) -> &'a [u8]
-    requires { ⌜ (15 ≤ length (now starts)) × (15 ≤ length (now lengths)) × (pacs_008 ≤ 14) × (camt_050 ≤ 14) × (pacs_028 ≤ 14) ⌝ }
-    ensures { λ r. ⌜ now r ≡ shownIn (now (s .entry)) (now (starts .entry)) (now (lengths .entry)) (byKind kind pacs_008 camt_050 pacs_028) ⌝ }
-{
-    shown(
-        s,
-        starts,
-        lengths,
-        by_kind(kind, pacs_008, camt_050, pacs_028),
-    )
-}
-
-// The message, by the places of its fields' texts. The numbers are those of `messageFrom`.
+// The message, by the places of its fields' texts. A text's characters are its own bytes.
 fn message_of(
     s: &[u8],
     kind: Kind,
-    at: &[usize; 15],
-    long: &[usize; 15],
+    at: &[usize; FIELDS_MOST + 1],
+    long: &[usize; FIELDS_MOST + 1],
     currency: Value,
 ) -> Message
-    requires { ⌜ (15 ≤ length (now at)) × (15 ≤ length (now long)) ⌝ }
+    requires { ⌜ (fieldsMost + 1 ≤ length (now at)) × (fieldsMost + 1 ≤ length (now long)) ⌝ }
     ensures { λ r. ⌜ r ≡ messageFrom kind (shownIn (now (s .entry)) (now (at .entry)) (now (long .entry))) currency ⌝ }
 {
+    let numbers = numbers_of(kind);
     Message {
         kind,
-        id: name_of(text(s, kind, at, long, 1, 1, 1)),
-        created: time_of(text(s, kind, at, long, 2, 2, 2)),
-        instructing: code_of(text(s, kind, at, long, 3, 0, 3)),
-        instructed: code_of(text(s, kind, at, long, 4, 0, 0)),
-        reference: identifier_of(text(s, kind, at, long, 5, 0, 8)),
-        uetr: uetr_of(text(s, kind, at, long, 6, 3, 7)),
-        amount: amount_of(text(s, kind, at, long, 7, 4, 0)),
+        id: name_of(shown(s, at, long, numbers.id)),
+        created: time_of(shown(s, at, long, numbers.created)),
+        instructing: code_of(shown(s, at, long, numbers.instructing)),
+        instructed: code_of(shown(s, at, long, numbers.instructed)),
+        reference: identifier_of(shown(s, at, long, numbers.reference)),
+        uetr: uetr_of(shown(s, at, long, numbers.uetr)),
+        amount: amount_of(shown(s, at, long, numbers.amount)),
         currency,
-        previous: code_of(text(s, kind, at, long, 8, 0, 0)),
+        previous: code_of(shown(s, at, long, numbers.previous)),
         debtor: agent_of(
-            text(s, kind, at, long, 9, 0, 0),
-            text(s, kind, at, long, 10, 0, 0),
+            shown(s, at, long, numbers.debtor.system),
+            shown(s, at, long, numbers.debtor.code),
         ),
         creditor: agent_of(
-            text(s, kind, at, long, 12, 0, 0),
-            text(s, kind, at, long, 13, 0, 0),
+            shown(s, at, long, numbers.creditor.system),
+            shown(s, at, long, numbers.creditor.code),
         ),
-        iban: remainder(text(s, kind, at, long, 14, 0, 0)),
-        debit: account_of(text(s, kind, at, long, 0, 5, 0)),
-        credit: account_of(text(s, kind, at, long, 0, 6, 0)),
-        original: name_of(text(s, kind, at, long, 0, 0, 4)),
-        originated: time_of(text(s, kind, at, long, 0, 0, 6)),
+        iban: remainder(shown(s, at, long, numbers.iban)),
+        debit: account_of(shown(s, at, long, numbers.debit)),
+        credit: account_of(shown(s, at, long, numbers.credit)),
+        original: name_of(shown(s, at, long, numbers.original)),
+        originated: time_of(shown(s, at, long, numbers.originated)),
     }
 }
 
 // A message of a known kind: 8 with its first bad field, or the message.
-fn receive_as(s: &[u8], kind: Kind, counts: &[usize; 73], starts: &[usize; 73]) -> Received
-    requires { ⌜ (73 ≤ length (now counts)) × (73 ≤ length (now starts)) ⌝ }
+fn receive_as(s: &[u8], kind: Kind, counts: &[usize; NODES], starts: &[usize; NODES]) -> Received
+    requires { ⌜ (nodes ≤ length (now counts)) × (nodes ≤ length (now starts)) ⌝ }
     ensures { λ r. ⌜ r ≡ receivedIn kind (heldSeen (now (s .entry)) kind (now (counts .entry)) (now (starts .entry))) ⌝ }
 {
     let bad = first_bad(s, kind, counts, starts);
@@ -304,7 +295,7 @@ pub fn field<'a>(s: &'a [u8], received: Received, number: usize) -> &'a [u8]
     ensures { λ r. ⌜ now r ≡ fieldShown (now (s .entry)) received number ⌝ }
     ensures { λ r. ⌜ (received ≡ receivedOf (now (s .entry)) → now r ≡ fieldOf (now (s .entry)) number) ⌝ }
 {
-    if 14 < number {
+    if FIELDS_MOST < number {
         return &s[..0];
     }
     let starts = received.starts;

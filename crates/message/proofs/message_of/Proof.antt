@@ -1,159 +1,207 @@
 -- Each part of the message is made of the text with its number.
-use mathlib.Core.Path.{_∙_}
-use native.Mathlib.Omega.{arith}
+use mathlib.Core.Path.{sym, subst, _∙_}
+use mathlib.Core.List.{[]}
+use Prim.Native.Nat.{ℕ, _+_, _≤_, _<_}
+use lib.Dec.{lit<}
+use lib.ListN.{length, getD}
+use Rattle.message.specs.declared.kinds.Numbers.{Numbers}
+use Rattle.message.specs.Fields.{fieldsMost}
 use Rattle.message.specs.Received.{shownIn}
 use Rattle.message.proofs.Built.{built}
+use Rattle.message.proofs.Tables.{endings, number-low}
 use Rattle.message.proofs.message_of.Statement.{statement}
 use Rattle.message.proofs.message_of.Tie as tie
 
-text-requires : tie.Need-text-requires
-text-requires c κs = (c .before .pre .0, c .before .pre .1, omega arith, omega arith, omega arith)
+-- what is asked of the number that stands at a place of `endings`
+asked : (c : tie.After-numbers-of) (i : ℕ) → i < length (endings (c .numbers-of .result))
+    → (fieldsMost + 1 ≤ length (c .before .before .args .at .now)) × (fieldsMost + 1 ≤ length (c .before .before .args .long .now))
+    × (getD (endings (c .numbers-of .result)) i (0, []) .0 ≤ fieldsMost)
+asked c i h =
+    let start = c .before .before in
+    let low = subst (λ (n : Numbers). getD (endings n) i (0, []) .0 ≤ fieldsMost) (sym (c .numbers-of .ensures)) (number-low (start .args .kind) i h) in
+    (start .pre .0, start .pre .1, low)
+
+numbers-of-requires : tie.Need-numbers-of-requires
+numbers-of-requires c κs = tt
+
+shown-requires : tie.Need-shown-requires
+shown-requires c κs = asked c 0 (lit< tt)
 
 name-of-requires : tie.Need-name-of-requires
 name-of-requires c κs = tt
 
-text-requires-2 : tie.Need-text-requires-2
-text-requires-2 c κs = (c .before .before .before .pre .0, c .before .before .before .pre .1, omega arith, omega arith, omega arith)
+shown-requires-2 : tie.Need-shown-requires-2
+shown-requires-2 c κs = asked (c .before .before) 1 (lit< tt)
 
 time-of-requires : tie.Need-time-of-requires
 time-of-requires c κs = tt
 
-text-requires-3 : tie.Need-text-requires-3
-text-requires-3 c κs = (c .before .before .before .before .before .pre .0, c .before .before .before .before .before .pre .1, omega arith, omega arith, omega arith)
+shown-requires-3 : tie.Need-shown-requires-3
+shown-requires-3 c κs = asked (c .before .before .before .before) 2 (lit< tt)
 
 code-of-requires : tie.Need-code-of-requires
 code-of-requires c κs = tt
 
-text-requires-4 : tie.Need-text-requires-4
-text-requires-4 c κs = (c .before .before .before .before .before .before .before .pre .0, c .before .before .before .before .before .before .before .pre .1, omega arith, omega arith, omega arith)
+shown-requires-4 : tie.Need-shown-requires-4
+shown-requires-4 c κs = asked (c .before .before .before .before .before .before) 3 (lit< tt)
 
 code-of-requires-2 : tie.Need-code-of-requires-2
 code-of-requires-2 c κs = tt
 
-text-requires-5 : tie.Need-text-requires-5
-text-requires-5 c κs = (c .before .before .before .before .before .before .before .before .before .pre .0, c .before .before .before .before .before .before .before .before .before .pre .1, omega arith, omega arith, omega arith)
+shown-requires-5 : tie.Need-shown-requires-5
+shown-requires-5 c κs = asked (c .before .before .before .before .before .before .before .before) 4 (lit< tt)
 
 identifier-of-requires : tie.Need-identifier-of-requires
 identifier-of-requires c κs = tt
 
-text-requires-6 : tie.Need-text-requires-6
-text-requires-6 c κs = (c .before .before .before .before .before .before .before .before .before .before .before .pre .0, c .before .before .before .before .before .before .before .before .before .before .before .pre .1, omega arith, omega arith, omega arith)
+shown-requires-6 : tie.Need-shown-requires-6
+shown-requires-6 c κs = asked (c .before .before .before .before .before .before .before .before .before .before) 5 (lit< tt)
 
 uetr-of-requires : tie.Need-uetr-of-requires
 uetr-of-requires c κs = tt
 
-text-requires-7 : tie.Need-text-requires-7
-text-requires-7 c κs = (c .before .before .before .before .before .before .before .before .before .before .before .before .before .pre .0, c .before .before .before .before .before .before .before .before .before .before .before .before .before .pre .1, omega arith, omega arith, omega arith)
+shown-requires-7 : tie.Need-shown-requires-7
+shown-requires-7 c κs = asked (c .before .before .before .before .before .before .before .before .before .before .before .before) 6 (lit< tt)
 
 amount-of-requires : tie.Need-amount-of-requires
 amount-of-requires c κs = tt
 
-text-requires-8 : tie.Need-text-requires-8
-text-requires-8 c κs = (c .before .before .before .before .before .before .before .before .before .before .before .before .before .before .before .pre .0, c .before .before .before .before .before .before .before .before .before .before .before .before .before .before .before .pre .1, omega arith, omega arith, omega arith)
+shown-requires-8 : tie.Need-shown-requires-8
+shown-requires-8 c κs = asked (c .before .before .before .before .before .before .before .before .before .before .before .before .before .before) 7 (lit< tt)
 
 code-of-requires-3 : tie.Need-code-of-requires-3
 code-of-requires-3 c κs = tt
 
-text-requires-9 : tie.Need-text-requires-9
-text-requires-9 c κs = (c .before .before .before .before .before .before .before .before .before .before .before .before .before .before .before .before .before .pre .0, c .before .before .before .before .before .before .before .before .before .before .before .before .before .before .before .before .before .pre .1, omega arith, omega arith, omega arith)
+shown-requires-9 : tie.Need-shown-requires-9
+shown-requires-9 c κs =
+    let late = c .before .before .before .before .before .before .before .before .before .before .before .before .before .before .before in
+    asked (late .before) 8 (lit< tt)
 
-text-requires-10 : tie.Need-text-requires-10
-text-requires-10 c κs = (c .before .before .before .before .before .before .before .before .before .before .before .before .before .before .before .before .before .before .pre .0, c .before .before .before .before .before .before .before .before .before .before .before .before .before .before .before .before .before .before .pre .1, omega arith, omega arith, omega arith)
+shown-requires-10 : tie.Need-shown-requires-10
+shown-requires-10 c κs =
+    let late = c .before .before .before .before .before .before .before .before .before .before .before .before .before .before .before in
+    asked (late .before .before) 9 (lit< tt)
 
 agent-of-requires : tie.Need-agent-of-requires
 agent-of-requires c κs = tt
 
-text-requires-11 : tie.Need-text-requires-11
-text-requires-11 c κs = (c .before .before .before .before .before .before .before .before .before .before .before .before .before .before .before .before .before .before .before .before .pre .0, c .before .before .before .before .before .before .before .before .before .before .before .before .before .before .before .before .before .before .before .before .pre .1, omega arith, omega arith, omega arith)
+shown-requires-11 : tie.Need-shown-requires-11
+shown-requires-11 c κs =
+    let late = c .before .before .before .before .before .before .before .before .before .before .before .before .before .before .before in
+    asked (late .before .before .before .before) 10 (lit< tt)
 
-text-requires-12 : tie.Need-text-requires-12
-text-requires-12 c κs = (c .before .before .before .before .before .before .before .before .before .before .before .before .before .before .before .before .before .before .before .before .before .pre .0, c .before .before .before .before .before .before .before .before .before .before .before .before .before .before .before .before .before .before .before .before .before .pre .1, omega arith, omega arith, omega arith)
+shown-requires-12 : tie.Need-shown-requires-12
+shown-requires-12 c κs =
+    let late = c .before .before .before .before .before .before .before .before .before .before .before .before .before .before .before in
+    asked (late .before .before .before .before .before) 11 (lit< tt)
 
 agent-of-requires-2 : tie.Need-agent-of-requires-2
 agent-of-requires-2 c κs = tt
 
-text-requires-13 : tie.Need-text-requires-13
-text-requires-13 c κs = (c .before .before .before .before .before .before .before .before .before .before .before .before .before .before .before .before .before .before .before .before .before .before .before .pre .0, c .before .before .before .before .before .before .before .before .before .before .before .before .before .before .before .before .before .before .before .before .before .before .before .pre .1, omega arith, omega arith, omega arith)
+shown-requires-13 : tie.Need-shown-requires-13
+shown-requires-13 c κs =
+    let late = c .before .before .before .before .before .before .before .before .before .before .before .before .before .before .before in
+    asked (late .before .before .before .before .before .before .before) 12 (lit< tt)
 
 remainder-requires : tie.Need-remainder-requires
 remainder-requires c κs = tt
 
-text-requires-14 : tie.Need-text-requires-14
-text-requires-14 c κs = (c .before .before .before .before .before .before .before .before .before .before .before .before .before .before .before .before .before .before .before .before .before .before .before .before .before .pre .0, c .before .before .before .before .before .before .before .before .before .before .before .before .before .before .before .before .before .before .before .before .before .before .before .before .before .pre .1, omega arith, omega arith, omega arith)
+shown-requires-14 : tie.Need-shown-requires-14
+shown-requires-14 c κs =
+    let late = c .before .before .before .before .before .before .before .before .before .before .before .before .before .before .before in
+    asked (late .before .before .before .before .before .before .before .before .before) 13 (lit< tt)
 
 account-of-requires : tie.Need-account-of-requires
 account-of-requires c κs = tt
 
-text-requires-15 : tie.Need-text-requires-15
-text-requires-15 c κs = (c .before .before .before .before .before .before .before .before .before .before .before .before .before .before .before .before .before .before .before .before .before .before .before .before .before .before .before .pre .0, c .before .before .before .before .before .before .before .before .before .before .before .before .before .before .before .before .before .before .before .before .before .before .before .before .before .before .before .pre .1, omega arith, omega arith, omega arith)
+shown-requires-15 : tie.Need-shown-requires-15
+shown-requires-15 c κs =
+    let late = c .before .before .before .before .before .before .before .before .before .before .before .before .before .before .before in
+    asked (late .before .before .before .before .before .before .before .before .before .before .before) 14 (lit< tt)
 
 account-of-requires-2 : tie.Need-account-of-requires-2
 account-of-requires-2 c κs = tt
 
-text-requires-16 : tie.Need-text-requires-16
-text-requires-16 c κs = (c .before .before .before .before .before .before .before .before .before .before .before .before .before .before .before .before .before .before .before .before .before .before .before .before .before .before .before .before .before .pre .0, c .before .before .before .before .before .before .before .before .before .before .before .before .before .before .before .before .before .before .before .before .before .before .before .before .before .before .before .before .before .pre .1, omega arith, omega arith, omega arith)
+shown-requires-16 : tie.Need-shown-requires-16
+shown-requires-16 c κs =
+    let late = c .before .before .before .before .before .before .before .before .before .before .before .before .before .before .before in
+    asked (late .before .before .before .before .before .before .before .before .before .before .before .before .before) 15 (lit< tt)
 
 name-of-requires-2 : tie.Need-name-of-requires-2
 name-of-requires-2 c κs = tt
 
-text-requires-17 : tie.Need-text-requires-17
-text-requires-17 c κs = (c .before .before .before .before .before .before .before .before .before .before .before .before .before .before .before .before .before .before .before .before .before .before .before .before .before .before .before .before .before .before .before .pre .0, c .before .before .before .before .before .before .before .before .before .before .before .before .before .before .before .before .before .before .before .before .before .before .before .before .before .before .before .before .before .before .before .pre .1, omega arith, omega arith, omega arith)
+shown-requires-17 : tie.Need-shown-requires-17
+shown-requires-17 c κs =
+    let late = c .before .before .before .before .before .before .before .before .before .before .before .before .before .before .before in
+    asked (late .before .before .before .before .before .before .before .before .before .before .before .before .before .before .before) 16 (lit< tt)
 
 time-of-requires-2 : tie.Need-time-of-requires-2
 time-of-requires-2 c κs = tt
 
 returns : tie.Need-returns
-returns c = built (c .before .before .before .before .before .before .before .before .before .before .before .before .before .before .before .before .before .before .before .before .before .before .before .before .before .before .before .before .before .before .before .before .before .args .kind) (shownIn (c .before .before .before .before .before .before .before .before .before .before .before .before .before .before .before .before .before .before .before .before .before .before .before .before .before .before .before .before .before .before .before .before .before .args .s .now) (c .before .before .before .before .before .before .before .before .before .before .before .before .before .before .before .before .before .before .before .before .before .before .before .before .before .before .before .before .before .before .before .before .before .args .at .now) (c .before .before .before .before .before .before .before .before .before .before .before .before .before .before .before .before .before .before .before .before .before .before .before .before .before .before .before .before .before .before .before .before .before .args .long .now)) (c .before .before .before .before .before .before .before .before .before .before .before .before .before .before .before .before .before .before .before .before .before .before .before .before .before .before .before .before .before .before .before .before .before .args .currency)
-    (c .before .before .before .before .before .before .before .before .before .before .before .before .before .before .before .before .before .before .before .before .before .before .before .before .before .before .before .before .before .before .name-of .ensures ∙ rw (c .before .before .before .before .before .before .before .before .before .before .before .before .before .before .before .before .before .before .before .before .before .before .before .before .before .before .before .before .before .before .before .text .ensures))
-    (c .before .before .before .before .before .before .before .before .before .before .before .before .before .before .before .before .before .before .before .before .before .before .before .before .before .before .before .before .time-of .ensures ∙ rw (c .before .before .before .before .before .before .before .before .before .before .before .before .before .before .before .before .before .before .before .before .before .before .before .before .before .before .before .before .before .text2 .ensures))
-    (c .before .before .before .before .before .before .before .before .before .before .before .before .before .before .before .before .before .before .before .before .before .before .before .before .before .before .code-of .ensures ∙ rw (c .before .before .before .before .before .before .before .before .before .before .before .before .before .before .before .before .before .before .before .before .before .before .before .before .before .before .before .text3 .ensures))
-    (c .before .before .before .before .before .before .before .before .before .before .before .before .before .before .before .before .before .before .before .before .before .before .before .before .code-of2 .ensures ∙ rw (c .before .before .before .before .before .before .before .before .before .before .before .before .before .before .before .before .before .before .before .before .before .before .before .before .before .text4 .ensures))
-    (c .before .before .before .before .before .before .before .before .before .before .before .before .before .before .before .before .before .before .before .before .before .before .identifier-of .ensures ∙ rw (c .before .before .before .before .before .before .before .before .before .before .before .before .before .before .before .before .before .before .before .before .before .before .before .text5 .ensures))
-    (c .before .before .before .before .before .before .before .before .before .before .before .before .before .before .before .before .before .before .before .before .uetr-of .ensures ∙ rw (c .before .before .before .before .before .before .before .before .before .before .before .before .before .before .before .before .before .before .before .before .before .text6 .ensures))
-    (c .before .before .before .before .before .before .before .before .before .before .before .before .before .before .before .before .before .before .amount-of .ensures ∙ rw (c .before .before .before .before .before .before .before .before .before .before .before .before .before .before .before .before .before .before .before .text7 .ensures))
-    (c .before .before .before .before .before .before .before .before .before .before .before .before .before .before .before .before .code-of3 .ensures ∙ rw (c .before .before .before .before .before .before .before .before .before .before .before .before .before .before .before .before .before .text8 .ensures))
-    (c .before .before .before .before .before .before .before .before .before .before .before .before .before .agent-of .ensures ∙ rw (c .before .before .before .before .before .before .before .before .before .before .before .before .before .before .before .text9 .ensures, c .before .before .before .before .before .before .before .before .before .before .before .before .before .before .text10 .ensures))
-    (c .before .before .before .before .before .before .before .before .before .before .agent-of2 .ensures ∙ rw (c .before .before .before .before .before .before .before .before .before .before .before .before .text11 .ensures, c .before .before .before .before .before .before .before .before .before .before .before .text12 .ensures))
-    (c .before .before .before .before .before .before .before .before .remainder .ensures ∙ rw (c .before .before .before .before .before .before .before .before .before .text13 .ensures))
-    (c .before .before .before .before .before .before .account-of .ensures ∙ rw (c .before .before .before .before .before .before .before .text14 .ensures))
-    (c .before .before .before .before .account-of2 .ensures ∙ rw (c .before .before .before .before .before .text15 .ensures))
-    (c .before .before .name-of2 .ensures ∙ rw (c .before .before .before .text16 .ensures))
-    (c .time-of2 .ensures ∙ rw (c .before .text17 .ensures))
+returns c =
+    let at-shown15 = c .before .before .before .before .before in
+    let at-agent-of2 = at-shown15 .before .before .before .before .before in
+    let at-shown9 = at-agent-of2 .before .before .before .before .before in
+    let at-uetr-of = at-shown9 .before .before .before .before .before in
+    let at-shown4 = at-uetr-of .before .before .before .before .before in
+    let at-name-of = at-shown4 .before .before .before .before .before in
+    let told = at-name-of .before .before in
+    let start = told .before .before .args in
+    built (start .kind) (told .numbers-of .result) (shownIn (start .s .now) (start .at .now) (start .long .now)) (start .currency)
+    (told .numbers-of .ensures)
+    (at-name-of .name-of .ensures ∙ rw (at-name-of .before .shown .ensures))
+    (at-shown4 .before .before .before .time-of .ensures ∙ rw (at-shown4 .before .before .before .before .shown2 .ensures))
+    (at-shown4 .before .code-of .ensures ∙ rw (at-shown4 .before .before .shown3 .ensures))
+    (at-uetr-of .before .before .before .before .code-of2 .ensures ∙ rw (at-shown4 .shown4 .ensures))
+    (at-uetr-of .before .before .identifier-of .ensures ∙ rw (at-uetr-of .before .before .before .shown5 .ensures))
+    (at-uetr-of .uetr-of .ensures ∙ rw (at-uetr-of .before .shown6 .ensures))
+    (at-shown9 .before .before .before .amount-of .ensures ∙ rw (at-shown9 .before .before .before .before .shown7 .ensures))
+    (at-shown9 .before .code-of3 .ensures ∙ rw (at-shown9 .before .before .shown8 .ensures))
+    (at-agent-of2 .before .before .before .agent-of .ensures
+    ∙ rw (at-shown9 .shown9 .ensures, at-agent-of2 .before .before .before .before .shown10 .ensures))
+    (at-agent-of2 .agent-of2 .ensures ∙ rw (at-agent-of2 .before .before .shown11 .ensures, at-agent-of2 .before .shown12 .ensures))
+    (at-shown15 .before .before .before .remainder .ensures ∙ rw (at-shown15 .before .before .before .before .shown13 .ensures))
+    (at-shown15 .before .account-of .ensures ∙ rw (at-shown15 .before .before .shown14 .ensures))
+    (c .before .before .before .before .account-of2 .ensures ∙ rw (at-shown15 .shown15 .ensures))
+    (c .before .before .name-of2 .ensures ∙ rw (c .before .before .before .shown16 .ensures))
+    (c .time-of2 .ensures ∙ rw (c .before .shown17 .ensures))
 
 pub message-of-spec : {M : Type 1} → statement M
 message-of-spec =
     tie.close
     (tie.spec
-    text-requires
+    numbers-of-requires
+    shown-requires
     name-of-requires
-    text-requires-2
+    shown-requires-2
     time-of-requires
-    text-requires-3
+    shown-requires-3
     code-of-requires
-    text-requires-4
+    shown-requires-4
     code-of-requires-2
-    text-requires-5
+    shown-requires-5
     identifier-of-requires
-    text-requires-6
+    shown-requires-6
     uetr-of-requires
-    text-requires-7
+    shown-requires-7
     amount-of-requires
-    text-requires-8
+    shown-requires-8
     code-of-requires-3
-    text-requires-9
-    text-requires-10
+    shown-requires-9
+    shown-requires-10
     agent-of-requires
-    text-requires-11
-    text-requires-12
+    shown-requires-11
+    shown-requires-12
     agent-of-requires-2
-    text-requires-13
+    shown-requires-13
     remainder-requires
-    text-requires-14
+    shown-requires-14
     account-of-requires
-    text-requires-15
+    shown-requires-15
     account-of-requires-2
-    text-requires-16
+    shown-requires-16
     name-of-requires-2
-    text-requires-17
+    shown-requires-17
     time-of-requires-2
     returns)

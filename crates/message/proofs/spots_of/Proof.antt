@@ -1,18 +1,21 @@
 -- In every turn the places and the lengths of the fields so far stand in the arrays, and zeros behind them.
-use mathlib.Core.Path.{_≡_, _∙_}
+use mathlib.Core.Path.{_≡_, ap, _∙_}
 use mathlib.Core.List.{map}
 use Prim.Native.Nat.{_≤_, _-_}
 use native.Mathlib.Omega.{arith}
 use lib.ListN.{length}
-use Rattle.message.specs.Fields.{fieldsOf}
+use Rattle.message.specs.declared.parts.Spot.{Spot}
+use Rattle.message.specs.Fields.{fieldsOf, fieldsMost}
 use Rattle.message.specs.Message.{startIn, lengthIn}
 use Rattle.message.specs.Seen.{heldSeen}
-use Rattle.message.proofs.Filled.{filled, filled-begin, filled-goes, filled-ends, values-count, value-here}
+use Rattle.message.proofs.Filled.{filled, filled-begin, filled-next, filled-ends, values-count}
 use Rattle.message.proofs.spots_of.Statement.{statement}
 use Rattle.message.proofs.spots_of.Tie as tie
 
 abbrev Inv-loop : tie.InvT-loop
-Inv-loop s kind counts starts n places₀ lengths₀ k₀ places lengths k = (n ≡ length (fieldsOf kind)) × (n ≤ 14) × (k ≤ n) × (places ≡ filled (map startIn (heldSeen s kind counts starts)) k) × (lengths ≡ filled (map lengthIn (heldSeen s kind counts starts)) k)
+Inv-loop s kind counts starts n places₀ lengths₀ k₀ places lengths k =
+    (n ≡ length (fieldsOf kind)) × (n ≤ fieldsMost) × (k ≤ n) × (places ≡ filled (map startIn (heldSeen s kind counts starts)) k)
+    × (lengths ≡ filled (map lengthIn (heldSeen s kind counts starts)) k)
 
 abbrev μ-loop : tie.MeasureT-loop
 μ-loop s kind counts starts n places₀ lengths₀ k₀ places lengths k = n - k
@@ -60,12 +63,28 @@ loop-less : tie.Need-loop-less Inv-loop μ-loop
 loop-less c = omega arith
 
 loop-again : tie.Need-loop-again Inv-loop μ-loop
-loop-again c = let places = filled-goes (map startIn (heldSeen (c .before .before .before .before .before .before .before .before .args .s .now) (c .before .before .before .before .before .before .before .before .args .kind) (c .before .before .before .before .before .before .before .before .args .counts .now) (c .before .before .before .before .before .before .before .before .args .starts .now))) (c .before .before .before .before .before .loop .k) (c .spot-of .result .start) (omega (arith, c .before .before .before .before .before .loop .inv .0, values-count (c .before .before .before .before .before .before .before .before .args .s .now) (c .before .before .before .before .before .before .before .before .args .kind) (c .before .before .before .before .before .before .before .before .args .counts .now) (c .before .before .before .before .before .before .before .before .args .starts .now) startIn)) (omega arith) (rw (c .spot-of .ensures) (value-here (c .before .before .before .before .before .before .before .before .args .s .now) (c .before .before .before .before .before .before .before .before .args .kind) (c .before .before .before .before .before .before .before .before .args .counts .now) (c .before .before .before .before .before .before .before .before .args .starts .now) (c .before .before .before .before .before .loop .k) (c .before .before .before .entry-at .result) (c .before .before .before .entry-at .ensures .0) (omega (arith, c .before .before .before .before .before .loop .inv .0)) startIn)) in
-    let lengths = filled-goes (map lengthIn (heldSeen (c .before .before .before .before .before .before .before .before .args .s .now) (c .before .before .before .before .before .before .before .before .args .kind) (c .before .before .before .before .before .before .before .before .args .counts .now) (c .before .before .before .before .before .before .before .before .args .starts .now))) (c .before .before .before .before .before .loop .k) (c .spot-of .result .length) (omega (arith, c .before .before .before .before .before .loop .inv .0, values-count (c .before .before .before .before .before .before .before .before .args .s .now) (c .before .before .before .before .before .before .before .before .args .kind) (c .before .before .before .before .before .before .before .before .args .counts .now) (c .before .before .before .before .before .before .before .before .args .starts .now) lengthIn)) (omega arith) (rw (c .spot-of .ensures) (value-here (c .before .before .before .before .before .before .before .before .args .s .now) (c .before .before .before .before .before .before .before .before .args .kind) (c .before .before .before .before .before .before .before .before .args .counts .now) (c .before .before .before .before .before .before .before .before .args .starts .now) (c .before .before .before .before .before .loop .k) (c .before .before .before .entry-at .result) (c .before .before .before .entry-at .ensures .0) (omega (arith, c .before .before .before .before .before .loop .inv .0)) lengthIn)) in
-    (c .before .before .before .before .before .loop .inv .0, c .before .before .before .before .before .loop .inv .1, omega arith, rw (c .before .before .before .before .before .loop .inv .3) places, rw (c .before .before .before .before .before .loop .inv .4) lengths)
+loop-again c =
+    let start = c .before .before .before .before .before .before .before .before .args in
+    let turn = c .before .before .before .before .before .loop in
+    let listed = c .before .before .before .entry-at in
+    let next = filled-next (start .s .now) (start .kind) (start .counts .now) (start .starts .now) (turn .k) (listed .result) (listed .ensures .0)
+    (omega (arith, turn .inv .0)) (omega arith) in (
+      turn .inv .0,
+      turn .inv .1,
+      omega arith,
+      rw (turn .inv .3) (next startIn (c .spot-of .result .start) (ap (λ (spot : Spot). spot .start) (c .spot-of .ensures))),
+      rw (turn .inv .4) (next lengthIn (c .spot-of .result .length) (ap (λ (spot : Spot). spot .length) (c .spot-of .ensures))),
+    )
 
 returns : tie.Need-returns Inv-loop μ-loop
-returns c = (c .before .loop .inv .3 ∙ filled-ends (map startIn (heldSeen (c .before .before .before .before .args .s .now) (c .before .before .before .before .args .kind) (c .before .before .before .before .args .counts .now) (c .before .before .before .before .args .starts .now))) (c .before .loop .k) (omega (arith, c .before .loop .inv .0, values-count (c .before .before .before .before .args .s .now) (c .before .before .before .before .args .kind) (c .before .before .before .before .args .counts .now) (c .before .before .before .before .args .starts .now) startIn)), c .before .loop .inv .4 ∙ filled-ends (map lengthIn (heldSeen (c .before .before .before .before .args .s .now) (c .before .before .before .before .args .kind) (c .before .before .before .before .args .counts .now) (c .before .before .before .before .args .starts .now))) (c .before .loop .k) (omega (arith, c .before .loop .inv .0, values-count (c .before .before .before .before .args .s .now) (c .before .before .before .before .args .kind) (c .before .before .before .before .args .counts .now) (c .before .before .before .before .args .starts .now) lengthIn)))
+returns c =
+    let start = c .before .before .before .before .args in
+    let turn = c .before .loop in
+    let held = heldSeen (start .s .now) (start .kind) (start .counts .now) (start .starts .now) in
+    let many = values-count (start .s .now) (start .kind) (start .counts .now) (start .starts .now) in (
+      turn .inv .3 ∙ filled-ends (map startIn held) (turn .k) (omega (arith, turn .inv .0, many startIn)),
+      turn .inv .4 ∙ filled-ends (map lengthIn held) (turn .k) (omega (arith, turn .inv .0, many lengthIn)),
+    )
 
 pub spots-of-spec : {M : Type 1} → statement M
 spots-of-spec =

@@ -9,9 +9,11 @@ use Rattle.message.proofs.kinds.camt_050.Statement.{statement}
 use Rattle.message.proofs.kinds.camt_050.Tie as tie
 
 mul-result : tie.Need-mul-result
+unfolding camt050Fields
 mul-result c = search needs
 
 array-copy-out-result : tie.Need-array-copy-out-result
+unfolding camt050Fields
 array-copy-out-result c = search needs
 
 returns : tie.Need-returns

@@ -1,6 +1,6 @@
 -- Each arm reads its kind's table.
 use Rattle.table.specs.declared.Kind.the-variants.{Pacs008, Camt050, Pacs028}
-use Rattle.message.specs.Fields.{pacs008Fields, camt050Fields, pacs028Fields, fieldsOf}
+use Rattle.message.specs.Fields.{fieldsOf}
 use Rattle.message.proofs.Entries.{entry-found}
 use borrow.Author.Needs.{needs}
 use Rattle.message.proofs.kinds.entry_at.Statement.{statement}
@@ -10,21 +10,21 @@ enum-told : tie.Need-enum-told
 enum-told c = search needs
 
 pacs-008-requires : tie.Need-pacs-008-requires
-unfolding fieldsOf pacs008Fields
+unfolding fieldsOf
 pacs-008-requires c κs = rw (c .enum-told .given .1) at (c .before .before .pre)
 
 enum-told-2 : tie.Need-enum-told-2
 enum-told-2 c = search needs
 
 camt-050-requires : tie.Need-camt-050-requires
-unfolding fieldsOf camt050Fields
+unfolding fieldsOf
 camt-050-requires c κs = rw (c .enum-told2 .given .1) at (c .before .before .pre)
 
 enum-told-3 : tie.Need-enum-told-3
 enum-told-3 c = search needs
 
 pacs-028-requires : tie.Need-pacs-028-requires
-unfolding fieldsOf pacs028Fields
+unfolding fieldsOf
 pacs-028-requires c κs = rw (c .enum-told3 .given .1) at (c .before .before .pre)
 
 returns : tie.Need-returns

@@ -9,9 +9,11 @@ use Rattle.message.proofs.kinds.pacs_008.Statement.{statement}
 use Rattle.message.proofs.kinds.pacs_008.Tie as tie
 
 mul-result : tie.Need-mul-result
+unfolding pacs008Fields
 mul-result c = search needs
 
 array-copy-out-result : tie.Need-array-copy-out-result
+unfolding pacs008Fields
 array-copy-out-result c = search needs
 
 returns : tie.Need-returns

@@ -1,8 +1,8 @@
--- Each arm gives the number of its kind.
-use Rattle.message.specs.Fields.{byKind}
+-- No kind has a rule between two fields.
+use Rattle.message.specs.Good.{goesWith}
 use borrow.Author.Needs.{needs}
-use Rattle.message.proofs.kinds.by_kind.Statement.{statement}
-use Rattle.message.proofs.kinds.by_kind.Tie as tie
+use Rattle.message.proofs.fit.goes_with.Statement.{statement}
+use Rattle.message.proofs.fit.goes_with.Tie as tie
 
 enum-told : tie.Need-enum-told
 enum-told c = search needs
@@ -14,16 +14,16 @@ enum-told-3 : tie.Need-enum-told-3
 enum-told-3 c = search needs
 
 returns : tie.Need-returns
-unfolding byKind
+unfolding goesWith
 returns c = rw (c .enum-told .given .1)
 
 returns-2 : tie.Need-returns-2
-unfolding byKind
+unfolding goesWith
 returns-2 c = rw (c .enum-told2 .given .1)
 
 returns-3 : tie.Need-returns-3
-unfolding byKind
+unfolding goesWith
 returns-3 c = rw (c .enum-told3 .given .1)
 
-pub by-kind-spec : {M : Type 1} → statement M
-by-kind-spec = tie.close (tie.spec enum-told enum-told-2 enum-told-3 returns returns-2 returns-3)
+pub goes-with-spec : {M : Type 1} → statement M
+goes-with-spec = tie.close (tie.spec enum-told enum-told-2 enum-told-3 returns returns-2 returns-3)

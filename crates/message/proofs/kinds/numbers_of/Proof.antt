@@ -1,0 +1,29 @@
+-- Each arm gives the numbers of its kind.
+use Rattle.message.specs.Fields.{numbersOf}
+use borrow.Author.Needs.{needs}
+use Rattle.message.proofs.kinds.numbers_of.Statement.{statement}
+use Rattle.message.proofs.kinds.numbers_of.Tie as tie
+
+enum-told : tie.Need-enum-told
+enum-told c = search needs
+
+enum-told-2 : tie.Need-enum-told-2
+enum-told-2 c = search needs
+
+enum-told-3 : tie.Need-enum-told-3
+enum-told-3 c = search needs
+
+returns : tie.Need-returns
+unfolding numbersOf
+returns c = rw (c .enum-told .given .1)
+
+returns-2 : tie.Need-returns-2
+unfolding numbersOf
+returns-2 c = rw (c .enum-told2 .given .1)
+
+returns-3 : tie.Need-returns-3
+unfolding numbersOf
+returns-3 c = rw (c .enum-told3 .given .1)
+
+pub numbers-of-spec : {M : Type 1} → statement M
+numbers-of-spec = tie.close (tie.spec enum-told enum-told-2 enum-told-3 returns returns-2 returns-3)
