@@ -7,13 +7,13 @@ use centre::Answer;
 use centre::Ticket;
 use centre::close_seat;
 use centre::lay_out;
-use centre::open_among;
-use centre::read_among;
 use centre::read_slip;
-use centre::set_among;
-use centre::submit_among;
 use centre::take_back;
 use directory::Gathered;
+use lender::open_with;
+use lender::read_with;
+use lender::set_with;
+use lender::submit_with;
 use script::Line;
 use script::Word;
 use seat::Limit;
@@ -59,7 +59,7 @@ fn open_by(room: &mut [u64], g: Gathered, line: Line) -> Answer
     ensures { λ _. ⌜ now (room .exit) ≡ openAfter (directoryIn g) (valueAt line 0) (sumsIn line) (now (room .entry)) ⌝ }
 {
     let values = line.values;
-    open_among(room, g, values[0], sums(&values, line.count))
+    open_with(room, g, values[0], sums(&values, line.count))
 }
 
 // An LPO as a line has it: 0 for none, n + 1 for n.
@@ -89,7 +89,7 @@ fn set_by(room: &mut [u64], g: Gathered, line: Line) -> Answer
     ensures { λ _. ⌜ now (room .exit) ≡ setAfter (directoryIn g) (ticketIn line) (valueAt line 2) (valueAt line 3) (wishIn line) (now (room .entry)) ⌝ }
 {
     let values = line.values;
-    set_among(room, g, ticket(line), values[2], values[3], wish(line))
+    set_with(room, g, ticket(line), values[2], values[3], wish(line))
 }
 
 fn submit_by(room: &mut [u64], g: Gathered, line: Line, text: &[u8], slip: &mut [u8]) -> Answer
@@ -99,14 +99,14 @@ fn submit_by(room: &mut [u64], g: Gathered, line: Line, text: &[u8], slip: &mut 
 {
     let values = line.values;
     let sheet = behind(text, line.rest);
-    submit_among(room, g, ticket(line), values[2], values[3], sheet, slip)
+    submit_with(room, g, ticket(line), values[2], values[3], sheet, slip)
 }
 
 fn read_by(room: &[u64], g: Gathered, line: Line) -> Answer
     ensures { λ r. ⌜ told r ≡ readTold (directoryIn g) (ticketIn line) (valueAt line 2) (valueAt line 3) (now (room .entry)) ⌝ }
 {
     let values = line.values;
-    read_among(room, g, ticket(line), values[2], values[3])
+    read_with(room, g, ticket(line), values[2], values[3])
 }
 
 // Reads the slip that digits write. Other digits than ten are no slip's.

@@ -9,14 +9,14 @@ behind-requires c κs = tt
 ticket-requires : tie.Need-ticket-requires
 ticket-requires c κs = tt
 
-array-read-submit-among : tie.Need-array-read-submit-among
-array-read-submit-among c = search needs
+array-read-submit-with : tie.Need-array-read-submit-with
+array-read-submit-with c = search needs
 
-array-read-submit-among-2 : tie.Need-array-read-submit-among-2
-array-read-submit-among-2 c = search needs
+array-read-submit-with-2 : tie.Need-array-read-submit-with-2
+array-read-submit-with-2 c = search needs
 
-submit-among-requires : tie.Need-submit-among-requires
-submit-among-requires c κs = tt
+submit-with-requires : tie.Need-submit-with-requires
+submit-with-requires c κs = tt
 
 same-length : tie.Need-same-length
 same-length c = search needs
@@ -25,7 +25,9 @@ same-length-2 : tie.Need-same-length-2
 same-length-2 c = search needs
 
 returns : tie.Need-returns
-returns c = rw (c .before .before .before .before .before .before .before .before .behind .ensures, c .before .before .before .before .before .before .ticket .ensures) at (c .before .before .before .before .submit-among .ensures)
+returns c =
+    let line = c .before .before .before .before .before .before in
+    rw (line .before .before .behind .ensures, line .ticket .ensures) at (c .before .before .before .before .submit-with .ensures)
 
 pub submit-by-spec : {M : Type 1} → statement M
 submit-by-spec =
@@ -33,9 +35,9 @@ submit-by-spec =
     (tie.spec
     behind-requires
     ticket-requires
-    array-read-submit-among
-    array-read-submit-among-2
-    submit-among-requires
+    array-read-submit-with
+    array-read-submit-with-2
+    submit-with-requires
     same-length
     same-length-2
     returns)
