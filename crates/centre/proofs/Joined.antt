@@ -6,6 +6,7 @@ use mathlib.Core.Bool.{Bool, true, false, cond}
 use mathlib.Core.List.{List, []}
 use Prim.Native.Nat.{ℕ, _<_}
 use lib.ListN.{length}
+use Rattle.slip.specs.Meaning.{seats}
 use Rattle.layout.specs.Seat.{roomLong, seatOf, withSeat}
 use Rattle.layout.proofs.Rooms.{seat-same}
 use Rattle.seat.specs.declared.calls.Answer.{Answer}
@@ -63,7 +64,7 @@ told-with JournalFull v w e = refl
 told-with NothingToTakeBack v w e = refl
 
 -- the seat put back
-module _ (room : List ℕ) (k : ℕ) (long : length room ≡ roomLong) (h : k < 8) (made : List ℕ) where
+module _ (room : List ℕ) (k : ℕ) (long : length room ≡ roomLong) (h : k < seats) (made : List ℕ) where
   put-back : (a : Answer) (values : List ℕ)
       → withSeat room k (seatBehind a made (seatOf room k)) ≡ behind (seatTold a values) (withSeat room k made) room
   unfolding seatTold numberOf behind isDone

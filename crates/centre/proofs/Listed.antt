@@ -11,20 +11,20 @@ use Rattle.shape.proofs.Tests.{and-false}
 use Rattle.directory.specs.declared.Participant.{Participant}
 use Rattle.directory.specs.declared.Gathered.{Gathered}
 use Rattle.directory.specs.declared.Found.{Found}
-use Rattle.directory.specs.Directory.{found, isFit}
+use Rattle.directory.specs.Directory.{recordsMost, found, isFit}
 use Rattle.directory.specs.Gathering.{recordsIn, directoryIn, fitGathered}
 use Rattle.directory.proofs.Finds.{fit-few}
 use Rattle.directory.proofs.Gathers.{directory-fit, directory-records}
 use Rattle.seat.specs.Calls.{placeFits}
 use Rattle.judge.proofs.Places.{found-fits}
 
-module _ (g : Gathered) (sixteen : length (g .records) ≡ 16) where
+module _ (g : Gathered) (full : length (g .records) ≡ recordsMost) where
   pub listed-unfit : fitGathered g ≡ false → isFit (directoryIn g) ≡ false
-  listed-unfit e = sym (directory-fit g sixteen) ∙ e
+  listed-unfit e = sym (directory-fit g full) ∙ e
 
   module _ (fit : fitGathered g ≡ true) where
     pub directory-is-fit : isFit (directoryIn g) ≡ true
-    directory-is-fit = sym (directory-fit g sixteen) ∙ fit
+    directory-is-fit = sym (directory-fit g full) ∙ fit
 
     pub records-fit : isFit (recordsIn g) ≡ true
     records-fit = ap isFit (sym (directory-records g fit)) ∙ directory-is-fit
@@ -37,5 +37,5 @@ module _ (g : Gathered) (code : ℕ) (fit : Bool) (f : Found) (tested : fit ≡ 
   pub gathered-owner : fit ≡ true → f ≡ found (directoryIn g) code
   gathered-owner h = e ∙ ap (λ (dir : List Participant). found dir code) (sym (directory-records g (sym tested ∙ h)))
 
-  pub gathered-place : length (g .records) ≡ 16 → fit ≡ true → placeFits f ≡ true
-  gathered-place sixteen h = owner-fits g sixteen (sym tested ∙ h) code f e
+  pub gathered-place : length (g .records) ≡ recordsMost → fit ≡ true → placeFits f ≡ true
+  gathered-place full h = owner-fits g full (sym tested ∙ h) code f e

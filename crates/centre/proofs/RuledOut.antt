@@ -20,8 +20,8 @@ use Rattle.layout.specs.declared.rows.Head.{Head}
 use Rattle.layout.specs.declared.rows.Account.{Account}
 use Rattle.layout.specs.declared.rows.Step.{Step}
 use Rattle.layout.specs.Parts.{put}
-use Rattle.layout.specs.Rows.{accountRow, accountIn}
-use Rattle.layout.specs.Seat.{roomLong, headOf, withHead, accountOf, withStep, seatOf, withSeat}
+use Rattle.layout.specs.Rows.{headLong, accountRow, accountIn}
+use Rattle.layout.specs.Seat.{seatLong, roomLong, headOf, withHead, accountOf, withStep, seatOf, withSeat}
 use Rattle.layout.proofs.RowLaws.{account-read}
 use Rattle.journal.specs.Steps.{noStep, settingsFit}
 use Rattle.journal.specs.Working.{uneffect, counting, lastStep, backed}
@@ -106,7 +106,7 @@ module _ (ticket : Ticket) (room : List ℕ) where
       let s : List ℕ = seatOf room (ticket .seat) in
       let good = close-passed e .1 in
       let head =
-      other-room room (ticket .seat) (record { opening = headOf s .opening; opened = 0; steps = 0 }) (replicate 920 0)
+      other-room room (ticket .seat) (record { opening = headOf s .opening; opened = 0; steps = 0 }) (replicate (seatLong - headLong) 0)
       (not-false (roomFits room) (close-passed e .0)) (ticket-seat ticket room good) (same ∙ close-made e) in
       let was : headOf s .opened ≡ 1 = ticket-good (ticket .opening) s (ticket-fits ticket room good) .0 in
       let is : headOf s .opened ≡ 0 = ap (λ (h : Head). h .opened) head in

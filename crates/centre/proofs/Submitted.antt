@@ -4,11 +4,11 @@
 use mathlib.Core.Path.{_≡_, refl, sym, ap, _∙_}
 use mathlib.Core.Bool.{Bool, true, false, _&&_, _||_, not, cond, false≢true}
 use mathlib.Core.List.{List, _++_}
-use Prim.Native.Nat.{ℕ, suc, _+_, _-_, _*_, _<_, _≤_}
+use Prim.Native.Nat.{ℕ, suc, _<_, _≤_}
 use native.Mathlib.Omega.{arith}
 use native.Mathlib.Nat.{lt-of-not-le}
 use lib.Dec.{leb, ltb, eqb}
-use lib.ListN.{length, take, drop}
+use lib.ListN.{length, drop}
 use borrow.Author.Tests.{eq-eqb, ne-eqb, lt-ltb, le-ltb, leb-false, lt-leb, le-leb, not-true, not-false}
 use Rattle.shape.specs.Dates.{isDate}
 use Rattle.slip.specs.Meaning.{seats, steps}
@@ -18,7 +18,6 @@ use Rattle.message.specs.declared.Answer.{Answer as Received}
 use Rattle.message.specs.declared.Answer.the-variants as message
 use Rattle.directory.specs.Directory.{codeMost}
 use Rattle.layout.specs.Seat.{headOf, seatOf, withSeat}
-use Rattle.layout.proofs.Parts.{given-back}
 use Rattle.layout.proofs.Rooms.{seat-same}
 use Rattle.journal.specs.Working.{stepped}
 use Rattle.seat.specs.Calls.{noTicket}
@@ -64,11 +63,6 @@ module _ (ticket : Ticket) (room : List ℕ) where
 
   pub ticket-fits : ticketBad ticket room ≡ false → noTicket (ticket .opening) (seatOf room (ticket .seat)) ≡ false
   ticket-fits e = good-ticket e .1
-
--- what comes back from the part that was lent stands in the seat's place
-pub seat-back : (r : List ℕ) (k : ℕ) (ys : List ℕ) → take (923 * k) r ++ (ys ++ drop ((923 * k + 923) - 923 * k) (drop (923 * k) r)) ≡ withSeat r k ys
-unfolding withSeat
-seat-back r k ys = given-back r (923 * k) 923 ys
 
 -- what stands behind a call, in the room
 behind-seat : (room : List ℕ) (k : ℕ) (made s : List ℕ) (t : Told) → withSeat room k s ≡ room

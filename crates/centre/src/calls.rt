@@ -9,6 +9,8 @@ use layout::ROOM_LONG;
 use layout::SEAT_LONG;
 use layout::head;
 use layout::rows::Account;
+use layout::seat_from;
+use layout::seat_in;
 use seat::Wish;
 use seat::clear;
 use seat::open_seat;
@@ -82,10 +84,10 @@ pub fn open_among(room: &mut [u64], g: Gathered, seat: u64, sums: &[u64]) -> Ans
     if SEATS <= seat {
         return Answer::NoTicket;
     }
-    let from = SEAT_LONG * seat as usize;
+    let from = seat_from(seat as usize);
     let to = from + SEAT_LONG;
     let answer = open_seat(&mut room[from..to], g, sums);
-    let h = head(&room[from..to]);
+    let h = head(seat_in(room, seat as usize));
     of_opening(answer, h.opening)
 }
 
@@ -100,7 +102,7 @@ pub fn close_seat(room: &mut [u64], ticket: Ticket) -> Answer
     if SEATS <= ticket.seat {
         return Answer::NoTicket;
     }
-    let from = SEAT_LONG * ticket.seat as usize;
+    let from = seat_from(ticket.seat as usize);
     let to = from + SEAT_LONG;
     let answer = seat::close_seat(&mut room[from..to], ticket.opening);
     of_seat(answer)
@@ -129,7 +131,7 @@ pub fn set_found(
         return Answer::NoTicket;
     }
     let given = settings_of(wish);
-    let from = SEAT_LONG * ticket.seat as usize;
+    let from = seat_from(ticket.seat as usize);
     let to = from + SEAT_LONG;
     let answer = set_account(&mut room[from..to], ticket.opening, owner, number, given);
     of_seat(answer)
@@ -163,7 +165,7 @@ pub fn take_back(room: &mut [u64], ticket: Ticket) -> Answer
     if SEATS <= ticket.seat {
         return Answer::NoTicket;
     }
-    let from = SEAT_LONG * ticket.seat as usize;
+    let from = seat_from(ticket.seat as usize);
     let to = from + SEAT_LONG;
     let answer = seat::take_back(&mut room[from..to], ticket.opening);
     of_seat(answer)
@@ -198,9 +200,8 @@ pub fn read_found(room: &[u64], fit: bool, owner: Found, ticket: Ticket, number:
     if SEATS <= ticket.seat {
         return Answer::NoTicket;
     }
-    let from = SEAT_LONG * ticket.seat as usize;
-    let to = from + SEAT_LONG;
-    let reading = read_account(&room[from..to], ticket.opening, owner, number);
+    let s = seat_in(room, ticket.seat as usize);
+    let reading = read_account(s, ticket.opening, owner, number);
     let answer = reading.answer;
     of_reading(answer, reading.account)
 }

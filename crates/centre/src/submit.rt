@@ -16,11 +16,14 @@ use judge::step_of;
 use layout::SEAT_LONG;
 use layout::head;
 use layout::rows::Step;
+use layout::seat_from;
+use layout::seat_in;
 use message::receive;
 use seat::no_ticket;
 use seat::room_fits;
 use shape::date::is_date;
 use slip::SEATS;
+use slip::SLIP_LONG;
 use slip::STEPS;
 use slip::Slip;
 use slip::write;
@@ -50,9 +53,7 @@ fn ticket_bad(room: &[u64], ticket: Ticket) -> bool
     if SEATS <= ticket.seat {
         return true;
     }
-    let from = SEAT_LONG * ticket.seat as usize;
-    let to = from + SEAT_LONG;
-    no_ticket(&room[from..to], ticket.opening)
+    no_ticket(seat_in(room, ticket.seat as usize), ticket.opening)
 }
 
 // How many steps the journal of a seat has.
@@ -60,9 +61,7 @@ fn steps_in(room: &[u64], seat: u64) -> u64
     requires { ⌜ (length (now room) ≡ roomLong) × (seat < seats) ⌝ }
     ensures { λ r. ⌜ r ≡ headOf (seatOf (now (room .entry)) seat) .steps ⌝ }
 {
-    let from = SEAT_LONG * seat as usize;
-    let to = from + SEAT_LONG;
-    let h = head(&room[from..to]);
+    let h = head(seat_in(room, seat as usize));
     h.steps
 }
 
@@ -139,7 +138,7 @@ pub fn submit_found(
     if !((sender <= CODE_MOST) & is_date(today)) {
         return Answer::BadNumber;
     }
-    if slip.len() < 5 {
+    if slip.len() < SLIP_LONG {
         return Answer::NoSlip;
     }
     if steps_in(room, ticket.seat) == STEPS {
@@ -150,7 +149,7 @@ pub fn submit_found(
         message::Answer::BadField(number) => Answer::BadField(number),
         message::Answer::Good(m) => {
             let c = case_from(looked, sender, today, m);
-            let from = SEAT_LONG * ticket.seat as usize;
+            let from = seat_from(ticket.seat as usize);
             let to = from + SEAT_LONG;
             judge_in(&mut room[from..to], ticket, c, slip)
         }

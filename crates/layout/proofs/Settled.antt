@@ -4,7 +4,7 @@ use mathlib.Core.Path.{refl}
 use mathlib.Core.List.{List}
 use Prim.Native.Nat.{ℕ}
 use denote.Ref.{now}
-use Rattle.shape.proofs.Single.{Settled, SettledWith, by-equation}
+use Rattle.shape.proofs.Single.{Settled, SettledWith, SettledShown, by-equation}
 use Rattle.layout.proofs.rows.read_head.Kinds as read-head-kinds
 use Rattle.layout.proofs.rows.read_head.Reads as read-head-reads
 use Rattle.layout.proofs.rows.write_head.Kinds as write-head-kinds
@@ -29,6 +29,10 @@ use Rattle.layout.proofs.step.Kinds as step-kinds
 use Rattle.layout.proofs.step.Reads as step-reads
 use Rattle.layout.proofs.put_step.Kinds as put-step-kinds
 use Rattle.layout.proofs.put_step.Reads as put-step-reads
+use Rattle.layout.proofs.seat_from.Kinds as seat-from-kinds
+use Rattle.layout.proofs.seat_from.Reads as seat-from-reads
+use Rattle.layout.proofs.seat_in.Kinds as seat-in-kinds
+use Rattle.layout.proofs.seat_in.Reads as seat-in-reads
 
 -- a function that answers nothing is settled by what it leaves of what it was lent
 pub read-head : Settled _ read-head-kinds.ps read-head-kinds.r read-head-reads.Post
@@ -66,3 +70,10 @@ step κs a x y e f = by-equation
 
 pub put-step : SettledWith _ put-step-kinds.ps put-step-kinds.r put-step-reads.Post (List ℕ) (λ κs e. now (e .0))
 put-step κs a x y e f p q = (refl, by-equation p q)
+
+pub seat-from : Settled _ seat-from-kinds.ps seat-from-kinds.r seat-from-reads.Post
+seat-from κs a x y e f = by-equation
+
+-- of a part that is handed back, its numbers are settled
+pub seat-in : SettledShown _ seat-in-kinds.ps seat-in-kinds.r seat-in-reads.Post (List ℕ) (λ κs x. now x)
+seat-in κs a x y e f = by-equation

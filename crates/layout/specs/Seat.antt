@@ -49,9 +49,13 @@ stepOf s k = stepIn (part s (stepFrom k) stepLong)
 unfoldable pub withStep : List ℕ → ℕ → Step → List ℕ
 withStep s k x = put s (stepFrom k) stepLong (stepRow x)
 
+-- where a seat stands in a room
+abbrev pub seatFrom : ℕ → ℕ
+seatFrom k = seatLong * k
+
 -- the seats of a room, and the room with another seat in its place
 unfoldable pub seatOf : List ℕ → ℕ → List ℕ
-seatOf r k = part r (seatLong * k) seatLong
+seatOf r k = part r (seatFrom k) seatLong
 
 unfoldable pub withSeat : List ℕ → ℕ → List ℕ → List ℕ
-withSeat r k s = put r (seatLong * k) seatLong s
+withSeat r k s = put r (seatFrom k) seatLong s

@@ -15,23 +15,25 @@ use rows::read_step;
 use rows::write_account;
 use rows::write_head;
 use rows::write_step;
+use slip::SEATS;
+use slip::STEPS;
 ghost use mathlib.Core.Path.{_≡_};
 ghost use Prim.Native.Nat.{_<_};
 ghost use lib.ListN.{length};
-ghost use Rattle.slip.specs.Meaning.{steps};
-ghost use Rattle.layout.specs.Seat.{accounts, seatLong, headOf, withHead, accountOf, withAccount, stepOf, withStep};
+ghost use Rattle.slip.specs.Meaning.{seats, steps};
+ghost use Rattle.layout.specs.Seat.{accounts, seatLong, roomLong, headOf, withHead, accountOf, withAccount, stepOf, withStep, seatFrom, seatOf};
 
 // The places of a seat, one for each record that a directory can have, and its accounts, two for each place.
 pub const PLACES: usize = 16;
 
-pub const ACCOUNTS: usize = 32;
+pub const ACCOUNTS: usize = 2 * PLACES;
 
 // Where the steps begin, and how many numbers a seat and a room have.
-pub const STEPS_FROM: usize = 227;
+pub const STEPS_FROM: usize = HEAD_LONG + ACCOUNT_LONG * ACCOUNTS;
 
-pub const SEAT_LONG: usize = 923;
+pub const SEAT_LONG: usize = STEPS_FROM + STEP_LONG * STEPS as usize;
 
-pub const ROOM_LONG: usize = 7384;
+pub const ROOM_LONG: usize = SEATS as usize * SEAT_LONG;
 
 pub fn head(s: &[u64]) -> Head
     requires { ⌜ length (now s) ≡ seatLong ⌝ }
@@ -81,4 +83,22 @@ pub fn put_step(s: &mut [u64], k: usize, x: Step)
     let from = STEPS_FROM + STEP_LONG * k;
     let to = from + STEP_LONG;
     write_step(&mut s[from..to], x);
+}
+
+// Where a seat begins in a room.
+pub fn seat_from(seat: usize) -> usize
+    requires { ⌜ seat < seats ⌝ }
+    ensures { λ r. ⌜ r ≡ seatFrom seat ⌝ }
+{
+    SEAT_LONG * seat
+}
+
+// The part of a room that a seat is.
+pub fn seat_in(room: &[u64], seat: usize) -> &[u64]
+    requires { ⌜ (length (now room) ≡ roomLong) × (seat < seats) ⌝ }
+    ensures { λ r. ⌜ now r ≡ seatOf (now (room .entry)) seat ⌝ }
+{
+    let from = seat_from(seat);
+    let to = from + SEAT_LONG;
+    &room[from..to]
 }

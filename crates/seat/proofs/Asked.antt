@@ -7,7 +7,7 @@ use Prim.Native.Nat.{ℕ, _≤_, _<_}
 use native.Mathlib.Omega.{arith}
 use lib.ListN.{length}
 use Rattle.shape.proofs.Tests.{and-left, and-right}
-use Rattle.slip.specs.Meaning.{steps}
+use Rattle.slip.specs.Meaning.{openings, steps}
 use Rattle.directory.specs.declared.Found.{Found}
 use Rattle.layout.specs.declared.rows.Settings.{Settings}
 use Rattle.layout.specs.declared.rows.Account.{Account}
@@ -26,8 +26,8 @@ use Rattle.seat.proofs.Kept.{fit-open, fit-number}
 use Rattle.seat.proofs.Named.{account-low, set-step-fits}
 
 -- one opening more fits its type
-pub opening-low : (s : List ℕ) → seatFits s ≡ true → (h : Head) → h ≡ headOf s → h .opening ≤ 65535
-opening-low s f h e = subst (λ (x : Head). x .opening ≤ 65535) (sym e) (fit-number s f)
+pub opening-low : (s : List ℕ) → seatFits s ≡ true → (h : Head) → h ≡ headOf s → h .opening ≤ openings
+opening-low s f h e = subst (λ (x : Head). x .opening ≤ openings) (sym e) (fit-number s f)
 
 module _ (opening : ℕ) (s : List ℕ) (l : length s ≡ seatLong) (f : seatFits s ≡ true) (t : noTicket opening s ≡ false)
     (h : Head) (e : h ≡ headOf s) where
@@ -47,7 +47,7 @@ module _ (opening : ℕ) (s : List ℕ) (l : length s ≡ seatLong) (f : seatFit
 
   -- set
   pub set-asks : (owner : Found) (number : ℕ) (given : Settings) → (accountNamed owner number && settingsFit given) ≡ true
-      → placeFits owner ≡ true → (h .steps ≡ 24 → ⊥) → (i : ℕ) → i ≡ accountNumber owner number → (a : Account) → a ≡ accountOf s i
+      → placeFits owner ≡ true → (h .steps ≡ steps → ⊥) → (i : ℕ) → i ≡ accountNumber owner number → (a : Account) → a ≡ accountOf s i
       → (x : Step) → x ≡ setStep i (a .settings) given
       → Low s × (stepFits x ≡ true) × (headOf s .steps < steps)
   set-asks owner number given b p q i m a k x y =

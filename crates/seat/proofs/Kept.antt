@@ -16,7 +16,7 @@ use Rattle.slip.specs.Meaning.{openings, steps}
 use Rattle.directory.specs.declared.Participant.{Participant}
 use Rattle.directory.specs.declared.Found.{Found}
 use Rattle.directory.specs.declared.Found.the-variants.{At, Missing}
-use Rattle.directory.specs.Directory.{isOwner}
+use Rattle.directory.specs.Directory.{recordsMost, isOwner}
 use Rattle.layout.specs.declared.rows.Head.{Head}
 use Rattle.layout.specs.declared.rows.Settings.{Settings}
 use Rattle.layout.specs.declared.rows.Step.{Step}
@@ -116,7 +116,7 @@ good-sums (p ∷ dir) (a ∷ b ∷ sums) e =
     (omega arith, rw (here .0, here .1) (rest .1))
 
 -- open
-pub open-keeps : (dir : List Participant) (sums s : List ℕ) → length dir ≤ 16 → seatFits s ≡ true → seatFits (openAfter dir sums s) ≡ true
+pub open-keeps : (dir : List Participant) (sums s : List ℕ) → length dir ≤ recordsMost → seatFits s ≡ true → seatFits (openAfter dir sums s) ≡ true
 unfolding openAfter
 open-keeps dir sums s l e =
     behind-keeps (λ (t : List ℕ). seatFits t ≡ true) (openAnswer dir sums s) (openSeat (suc (headOf s .opening)) sums) s

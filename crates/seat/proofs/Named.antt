@@ -1,4 +1,4 @@
--- An account that is named is one of the seat's 32, and a set of it is a step that fits.
+-- An account that is named is one of the seat's, and a set of it is a step that fits.
 -- Assumes nothing.
 use mathlib.Core.Path.{_≡_, refl, sym, subst}
 use mathlib.Core.Bool.{Bool, true, false, _||_, cond}
@@ -18,7 +18,7 @@ use Rattle.layout.specs.Seat.{places, accounts}
 use Rattle.journal.specs.Steps.{settingsFit, noMessage, noMovement, setFits, stepFits}
 use Rattle.seat.specs.Calls.{accountNamed, accountNumber, accountFound, placeFits, setStep}
 
-pub place-low : (f : Found) (place : ℕ) (p : Participant) → f ≡ At place p → placeFits f ≡ true → place < 16
+pub place-low : (f : Found) (place : ℕ) (p : Participant) → f ≡ At place p → placeFits f ≡ true → place < places
 place-low f place p e h = ltb-true place places (subst (λ (x : Found). placeFits x ≡ true) e h)
 
 -- a number of 0 counts as 1
@@ -43,7 +43,7 @@ module _ (owner : Found) (number : ℕ) (named : accountNamed owner number ≡ t
     where
       go : (f : Found) → placeFits f ≡ true → accountNumber f number < accounts
       go (At place p) t =
-          let low : place < 16 = ltb-true place places t in
+          let low : place < places = ltb-true place places t in
           omega (arith, low, number-low)
       go Missing t = omega arith
 

@@ -36,9 +36,9 @@ good-one : (p : Participant) (dir : List Participant) (a b : ℕ) (sums : List �
 unfolding sumsGood
 good-one p dir a b sums = refl
 
-module _ (g : Gathered) (sixteen : length (g .records) ≡ 16) (few : g .count ≤ recordsMost) where
+module _ (g : Gathered) (full : length (g .records) ≡ recordsMost) (few : g .count ≤ recordsMost) where
   pub records-length : length (recordsIn g) ≡ g .count
-  records-length = length-take-le (g .count) (g .records) (omega (arith, sixteen, few))
+  records-length = length-take-le (g .count) (g .records) (omega (arith, full, few))
 
   -- no more sums than a seat has accounts
   pub sums-few : (sums : List ℕ) → sumsGood (recordsIn g) sums ≡ true → length sums ≤ accounts

@@ -8,6 +8,7 @@ use native.Mathlib.Numerals.{add-one}
 use lib.Dec.{eqb}
 use lib.ListN.{length, replicate}
 use borrow.Author.Tests.{eq-eqb, ne-eqb, not-true, not-false}
+use Rattle.slip.specs.Meaning.{openings, steps}
 use Rattle.directory.specs.declared.Participant.{Participant}
 use Rattle.directory.specs.declared.Found.{Found}
 use Rattle.layout.specs.declared.rows.Settings.{Settings}
@@ -38,18 +39,18 @@ module _ (dir : List Participant) (sums s : List ℕ) (h : Head) (e : h ≡ head
   open-already q = rw (← e, eq-eqb (h .opened) 1 q)
 
   module _ (p : h .opened ≡ 1 → ⊥) where
-    pub open-none-left : h .opening ≡ 65535 → NoOpeningLeft ≡ openAnswer dir sums s
+    pub open-none-left : h .opening ≡ openings → NoOpeningLeft ≡ openAnswer dir sums s
     unfolding openAnswer
-    open-none-left q = rw (← e, ne-eqb (h .opened) 1 p, eq-eqb (h .opening) 65535 q)
+    open-none-left q = rw (← e, ne-eqb (h .opened) 1 p, eq-eqb (h .opening) openings q)
 
-    module _ (q : h .opening ≡ 65535 → ⊥) where
+    module _ (q : h .opening ≡ openings → ⊥) where
       pub open-bad : sumsGood dir sums ≡ false → BadNumber ≡ openAnswer dir sums s
       unfolding openAnswer
-      open-bad f = rw (← e, ne-eqb (h .opened) 1 p, ne-eqb (h .opening) 65535 q, f)
+      open-bad f = rw (← e, ne-eqb (h .opened) 1 p, ne-eqb (h .opening) openings q, f)
 
       pub open-good : sumsGood dir sums ≡ true → Done ≡ openAnswer dir sums s
       unfolding openAnswer
-      open-good f = rw (← e, ne-eqb (h .opened) 1 p, ne-eqb (h .opening) 65535 q, f)
+      open-good f = rw (← e, ne-eqb (h .opened) 1 p, ne-eqb (h .opening) openings q, f)
 
 module _ (dir : List Participant) (sums s : List ℕ) where
   open-kept : (a : Answer) → a ≡ openAnswer dir sums s → isDone a ≡ false → s ≡ openAfter dir sums s
@@ -77,7 +78,7 @@ module _ (dir : List Participant) (sums s : List ℕ) where
   -- where it is done, the sums are good
   pub done-good : Done ≡ openAnswer dir sums s → sumsGood dir sums ≡ true
   unfolding openAnswer
-  done-good e = third-passed (eqb (headOf s .opened) 1) (eqb (headOf s .opening) 65535) (sumsGood dir sums) e
+  done-good e = third-passed (eqb (headOf s .opened) 1) (eqb (headOf s .opening) openings) (sumsGood dir sums) e
 
 -- close
 module _ (opening : ℕ) (s : List ℕ) where
@@ -133,19 +134,19 @@ module _ (opening : ℕ) (owner : Found) (number : ℕ) (given : Settings) (s : 
     set-bad b = (rw (t, b), rw (t, b))
 
     module _ (b : (accountNamed owner number && settingsFit given) ≡ true) (h : Head) (e : h ≡ headOf s) where
-      pub set-full : h .steps ≡ 24
+      pub set-full : h .steps ≡ steps
           → (JournalFull ≡ setAnswer opening owner number given s) × (s ≡ setAfter opening owner number given s)
       unfolding setAfter setAnswer
-      set-full q = (rw (t, b, ← e, eq-eqb (h .steps) 24 q), rw (t, b, ← e, eq-eqb (h .steps) 24 q))
+      set-full q = (rw (t, b, ← e, eq-eqb (h .steps) steps q), rw (t, b, ← e, eq-eqb (h .steps) steps q))
 
-      set-right : (h .steps ≡ 24 → ⊥)
+      set-right : (h .steps ≡ steps → ⊥)
           → (Done ≡ setAnswer opening owner number given s)
           × (stepped (setStep (accountNumber owner number) (accountOf s (accountNumber owner number) .settings) given) s
           ≡ setAfter opening owner number given s)
       unfolding setAfter setAnswer
-      set-right q = (rw (t, b, ← e, ne-eqb (h .steps) 24 q), rw (t, b, ← e, ne-eqb (h .steps) 24 q))
+      set-right q = (rw (t, b, ← e, ne-eqb (h .steps) steps q), rw (t, b, ← e, ne-eqb (h .steps) steps q))
 
-      pub set-done : (h .steps ≡ 24 → ⊥) → (i : ℕ) → i ≡ accountNumber owner number → (a : Account) → a ≡ accountOf s i
+      pub set-done : (h .steps ≡ steps → ⊥) → (i : ℕ) → i ≡ accountNumber owner number → (a : Account) → a ≡ accountOf s i
           → (x : Step) → x ≡ setStep i (a .settings) given → (u : List ℕ) → u ≡ stepped x s
           → (Done ≡ setAnswer opening owner number given s) × (u ≡ setAfter opening owner number given s)
       set-done q i f a k x y u z = (

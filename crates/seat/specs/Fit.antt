@@ -11,7 +11,7 @@ use Rattle.shape.specs.Bytes.{every}
 use Rattle.slip.specs.Meaning.{seats, openings, steps}
 use Rattle.layout.specs.declared.rows.Head.{Head}
 use Rattle.layout.specs.declared.rows.Account.{Account}
-use Rattle.layout.specs.Rows.{headRow, accountRow, stepLong}
+use Rattle.layout.specs.Rows.{headLong, headRow, accountRow, stepLong}
 use Rattle.layout.specs.Seat.{accounts, seatLong, roomLong, headOf, accountOf, seatOf}
 use Rattle.journal.specs.Steps.{sumMost, noSettings}
 use Rattle.journal.specs.Working.{journalOf, worked}
@@ -25,7 +25,7 @@ same (a ∷ s) (b ∷ t) = eqb a b && same s t
 
 -- a closed seat
 unfoldable pub closedSeat : ℕ → List ℕ
-closedSeat opening = headRow (record { opening = opening; opened = 0; steps = 0 }) ++ replicate (seatLong - 3) 0
+closedSeat opening = headRow (record { opening = opening; opened = 0; steps = 0 }) ++ replicate (seatLong - headLong) 0
 
 -- an account that was just opened
 abbrev pub openAccount : ℕ → Account

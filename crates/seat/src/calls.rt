@@ -21,6 +21,8 @@ use layout::rows::Settings;
 use layout::rows::Step;
 use shape::stored::Uetr;
 use shape::value::Value;
+use slip::OPENINGS;
+use slip::STEPS;
 ghost use mathlib.Core.Path.{_≡_};
 ghost use mathlib.Core.Bool.{true};
 ghost use Prim.Native.Nat.{_≤_};
@@ -97,7 +99,7 @@ fn open_answer(s: &[u64], g: Gathered, sums: &[u64]) -> Answer
     if h.opened == 1 {
         return Answer::AlreadyOpen;
     }
-    if h.opening == 65535 {
+    if h.opening == OPENINGS {
         return Answer::NoOpeningLeft;
     }
     if !sums_good(g, sums) {
@@ -249,7 +251,7 @@ pub fn set_account(
         return Answer::BadNumber;
     }
     let h = head(s);
-    if h.steps == 24 {
+    if h.steps == STEPS {
         return Answer::JournalFull;
     }
     let i = account_number(owner, number);

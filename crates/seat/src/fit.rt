@@ -3,6 +3,7 @@ use journal::SUM_MOST;
 use journal::append;
 use journal::is_possible;
 use journal::no_settings;
+use layout::ACCOUNTS;
 use layout::ROOM_LONG;
 use layout::SEAT_LONG;
 use layout::account;
@@ -11,7 +12,11 @@ use layout::put_account;
 use layout::put_head;
 use layout::rows::Account;
 use layout::rows::Head;
+use layout::seat_in;
 use layout::step;
+use slip::OPENINGS;
+use slip::SEATS;
+use slip::STEPS;
 ghost use mathlib.Core.Path.{_≡_};
 ghost use mathlib.Core.Bool.{true};
 ghost use Prim.Native.Nat.{ℕ, _≤_};
@@ -42,13 +47,13 @@ fn is_same(s: &[u64], t: &[u64]) -> bool
 }
 
 // The opening sums that stand in a seat.
-fn sums(s: &[u64]) -> [u64; 32]
+fn sums(s: &[u64]) -> [u64; ACCOUNTS]
     requires { ⌜ length (now s) ≡ seatLong ⌝ }
     ensures { λ r. ⌜ r ≡ sumsOf (now (s .entry)) ⌝ }
 {
-    let mut out = [0u64; 32];
+    let mut out = [0u64; ACCOUNTS];
     let mut i = 0;
-    while i < 32 {
+    while i < ACCOUNTS {
         let a = account(s, i);
         out[i] = a.opening;
         i += 1;
@@ -104,7 +109,7 @@ fn works_out(s: &[u64], opening: u64, count: usize, given: &[u64]) -> bool
     requires { ⌜ (length (now s) ≡ seatLong) × (count ≤ steps) × (length (now given) ≤ accounts) × (every (λ (sum : ℕ). leb sum sumMost) (now given) ≡ true) ⌝ }
     ensures { λ r. ⌜ r ≡ comesOut (now (s .entry)) (worked (stepsFrom (now (s .entry)) 0 count) (openSeat opening (now (given .entry)))) ⌝ }
 {
-    let mut t = [0u64; 923];
+    let mut t = [0u64; SEAT_LONG];
     open_with(&mut t, opening, given);
     let mut k = 0;
     while k < count {
@@ -124,7 +129,7 @@ fn open_fits(s: &[u64]) -> bool
     ensures { λ r. ⌜ r ≡ openFits (now (s .entry)) ⌝ }
 {
     let h = head(s);
-    if (h.opening < 1) | (65535 < h.opening) | (24 < h.steps) {
+    if (h.opening < 1) | (OPENINGS < h.opening) | (STEPS < h.steps) {
         return false;
     }
     let given = sums(s);
@@ -139,7 +144,7 @@ fn closed_fits(s: &[u64]) -> bool
     requires { ⌜ length (now s) ≡ seatLong ⌝ }
     ensures { λ r. ⌜ r ≡ closedFits (now (s .entry)) ⌝ }
 {
-    if 65535 < s[0] {
+    if OPENINGS < s[0] {
         return false;
     }
     let mut i = 1;
@@ -156,7 +161,7 @@ fn closed_fits(s: &[u64]) -> bool
 pub fn seat_fits(s: &[u64]) -> bool
     ensures { λ r. ⌜ r ≡ seatFits (now (s .entry)) ⌝ }
 {
-    if s.len() != 923 {
+    if s.len() != SEAT_LONG {
         return false;
     }
     let h = head(s);
@@ -174,10 +179,8 @@ pub fn room_fits(r: &[u64]) -> bool
         return false;
     }
     let mut k = 0;
-    while k < 8 {
-        let from = SEAT_LONG * k;
-        let to = from + SEAT_LONG;
-        if !seat_fits(&r[from..to]) {
+    while k < SEATS as usize {
+        if !seat_fits(seat_in(r, k)) {
             return false;
         }
         k += 1;

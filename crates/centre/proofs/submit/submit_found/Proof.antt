@@ -8,12 +8,15 @@ use lib.Dec.{leb}
 use borrow.Author.Tests.{not-true, not-false}
 use Rattle.shape.specs.Dates.{isDate}
 use Rattle.slip.specs.Meaning.{seats, steps}
+use Rattle.message.specs.declared.Message.{Message}
 use Rattle.directory.specs.Directory.{codeMost}
 use Rattle.layout.specs.Seat.{headOf, seatOf}
 use Rattle.seat.specs.Fit.{roomFits}
-use Rattle.seat.proofs.Rooms.{room-long, seat-lent}
-use Rattle.judge.specs.Case.{caseFrom}
+use Rattle.seat.proofs.Rooms.{room-long}
+use Rattle.judge.specs.declared.case.Case.{Case}
+use Rattle.judge.specs.Case.{Arises, caseFrom}
 use Rattle.centre.specs.Calls.{ticketBad}
+use Rattle.centre.proofs.SeatLent.{Lent, lent-seat, room-back, seat-ends}
 use Rattle.centre.proofs.SubmitSought.{sought-arises, sought-fits}
 use Rattle.centre.proofs.Submitted.{
   Passed,
@@ -30,7 +33,6 @@ use Rattle.centre.proofs.Submitted.{
   bad-field,
   can-judge,
   judged,
-  seat-back,
 }
 use borrow.Author.Needs.{needs}
 use Rattle.centre.proofs.submit.submit_found.Statement.{statement}
@@ -58,6 +60,27 @@ passed c = record {
   slip-long = c .before .before .before .if5 .left;
   steps-left = λ (e : headOf (seatOf (c .before .before .before .before .before .before .before .before .before .before .before .before .before .before .before .args .room .now) (c .before .before .before .before .before .before .before .before .before .before .before .before .before .before .before .args .ticket .seat)) .steps ≡ steps). c .if6 .left (c .before .steps-in .ensures ∙ e);
 }
+
+-- where its seat is lent: all tests were passed, and the sheet was a message
+abbrev tested : tie.After-seat-from → tie.Else6
+tested c = c .before .before .before .before .before
+
+abbrev start : tie.After-seat-from → tie.Start
+start c = tested c .before .before .before .before .before .before .before .before .before .before .before .before .before .before .before
+
+abbrev message : tie.After-seat-from → Message
+message c = c .before .before .before .received3 .given .0 .0
+
+abbrev cases : tie.After-seat-from → Message → Case
+cases c = caseFrom (start c .args .looked) (start c .args .sender) (start c .args .today)
+
+lent : (c : tie.After-seat-from) → Lent (start c .args .room .now) (start c .args .ticket .seat) (c .seat-from .result)
+lent c = record { fit = passed (tested c) .room-fit; low = seat-low (tested c .before .before .before .before .before .before); place = c .seat-from .ensures }
+
+arises : (c : tie.After-seat-from) → Arises (cases c (message c))
+arises c =
+    let all = passed (tested c) in
+    sought-arises (start c .pre) (all .directory-fit) (message c) (c .before .before .before .received3 .given .1) (start c .args .today) (all .numbers-right)
 
 room-fits-requires : tie.Need-room-fits-requires
 room-fits-requires c κs = tt
@@ -119,14 +142,14 @@ enum-known-received-3 c = search needs
 case-from-requires : tie.Need-case-from-requires
 case-from-requires c κs = sought-fits (c .before .before .before .before .before .before .before .before .before .before .before .before .before .before .before .before .before .before .pre) (not-false _ (c .before .before .before .before .before .before .before .before .before .before .before .before .if2 .left)) (c .before .received3 .given .0 .0) (c .before .received3 .given .1)
 
-mul-from : tie.Need-mul-from
-mul-from c = omega (arith, seat-low (c .before .before .before .before .before .before .before .before .before .before))
+seat-from-requires : tie.Need-seat-from-requires
+seat-from-requires c κs = seat-low (c .before .before .before .before .before .before .before .before .before .before)
 
 add-to : tie.Need-add-to
-add-to c = omega (arith, seat-low (c .before .before .before .before .before .before .before .before .before .before))
+add-to c = omega (arith, c .seat-from .ensures, seat-low (c .before .before .before .before .before .before .before .before .before .before .before))
 
 mul-judge-in : tie.Need-mul-judge-in
-mul-judge-in c = omega (arith, seat-low (c .before .before .before .before .before .before .before .before .before .before))
+mul-judge-in c = omega (arith, c .seat-from .ensures, seat-low (c .before .before .before .before .before .before .before .before .before .before .before))
 
 sub-judge-in : tie.Need-sub-judge-in
 sub-judge-in c = omega arith
@@ -135,10 +158,13 @@ part-judge-in-start : tie.Need-part-judge-in-start
 part-judge-in-start c = omega arith
 
 part-judge-in-end : tie.Need-part-judge-in-end
-part-judge-in-end c = omega (arith, seat-low (c .before .before .before .before .before .before .before .before .before .before), room-long (c .before .before .before .before .before .before .before .before .before .before .before .before .before .before .before .before .before .before .before .args .room .now) (room-good (c .before .before .before .before .before .before .before .before .before .before .before .before .before .before)))
+part-judge-in-end c = seat-ends (lent c)
 
 judge-in-requires : tie.Need-judge-in-requires
-judge-in-requires c κs = can-judge (passed (c .before .before .before .before .before .before)) (caseFrom (c .before .before .before .before .before .before .before .before .before .before .before .before .before .before .before .before .before .before .before .before .before .args .looked) (c .before .before .before .before .before .before .before .before .before .before .before .before .before .before .before .before .before .before .before .before .before .args .sender) (c .before .before .before .before .before .before .before .before .before .before .before .before .before .before .before .before .before .before .before .before .before .args .today)) (c .before .before .before .before .before .before .before .before .before .before .before .before .before .before .before .before .before .before .before .before .before .args .received) (c .before .before .before .before .received3 .given .0 .0) (c .before .before .before .before .received3 .given .1) (sought-arises (c .before .before .before .before .before .before .before .before .before .before .before .before .before .before .before .before .before .before .before .before .before .pre) (not-false _ (c .before .before .before .before .before .before .before .before .before .before .before .before .before .before .before .if2 .left)) (c .before .before .before .before .received3 .given .0 .0) (c .before .before .before .before .received3 .given .1) (c .before .before .before .before .before .before .before .before .before .before .before .before .before .before .before .before .before .before .before .before .before .args .today) (numbers-right (c .before .before .before .before .before .before .before .before .before .before))) (c .before .before .case-from .result) (c .before .before .case-from .ensures) _ (seat-lent (c .before .before .before .before .before .before .before .before .before .before .before .before .before .before .before .before .before .before .before .before .before .args .room .now) (c .before .before .before .before .before .before .before .before .before .before .before .before .before .before .before .before .before .before .before .before .before .args .ticket .seat))
+judge-in-requires c κs =
+    let here : tie.After-seat-from = c .before .before in
+    can-judge (passed (tested here)) (cases here) (start here .args .received) (message here) (here .before .before .before .received3 .given .1)
+    (arises here) (here .before .case-from .result) (here .before .case-from .ensures) _ (lent-seat (lent here))
 
 same-length-7 : tie.Need-same-length-7
 same-length-7 c = refl
@@ -159,7 +185,13 @@ same-length-10 : tie.Need-same-length-10
 same-length-10 c = search needs
 
 returns-9 : tie.Need-returns-9
-returns-9 c = judged (passed (c .before .before .before .before .before .before .before .before .before .before .before)) (caseFrom (c .before .before .before .before .before .before .before .before .before .before .before .before .before .before .before .before .before .before .before .before .before .before .before .before .before .before .args .looked) (c .before .before .before .before .before .before .before .before .before .before .before .before .before .before .before .before .before .before .before .before .before .before .before .before .before .before .args .sender) (c .before .before .before .before .before .before .before .before .before .before .before .before .before .before .before .before .before .before .before .before .before .before .before .before .before .before .args .today)) (c .before .before .before .before .before .before .before .before .before .before .before .before .before .before .before .before .before .before .before .before .before .before .before .before .before .before .args .received) (c .before .before .before .before .before .before .before .before .before .received3 .given .0 .0) (c .before .before .before .before .before .before .before .before .before .received3 .given .1) (c .before .before .before .before .before .before .before .case-from .result) (c .before .before .before .before .before .before .before .case-from .ensures) _ (seat-lent (c .before .before .before .before .before .before .before .before .before .before .before .before .before .before .before .before .before .before .before .before .before .before .before .before .before .before .args .room .now) (c .before .before .before .before .before .before .before .before .before .before .before .before .before .before .before .before .before .before .before .before .before .before .before .before .before .before .args .ticket .seat)) (c .before .before .before .before .judge-in .result) (c .before .before .before .before .judge-in .ensures .0) (c .before .before .before .before .judge-in .last .0) (c .before .before .before .before .judge-in .ensures .1 .0) _ (seat-back (c .before .before .before .before .before .before .before .before .before .before .before .before .before .before .before .before .before .before .before .before .before .before .before .before .before .before .args .room .now) (c .before .before .before .before .before .before .before .before .before .before .before .before .before .before .before .before .before .before .before .before .before .before .before .before .before .before .args .ticket .seat) (c .before .before .before .before .judge-in .last .0)) (c .before .before .before .before .judge-in .last .1 .1 .1 .0) (c .before .before .before .before .judge-in .ensures .1 .1)
+returns-9 c =
+    let here : tie.After-seat-from = c .before .before .before .before .before .before .before in
+    let called = c .before .before .before .before .judge-in in
+    judged (passed (tested here)) (cases here) (start here .args .received) (message here) (here .before .before .before .received3 .given .1)
+    (here .before .case-from .result) (here .before .case-from .ensures) _ (lent-seat (lent here))
+    (called .result) (called .ensures .0) (called .last .0) (called .ensures .1 .0) _ (room-back (lent here) (called .last .0))
+    (called .last .1 .1 .1 .0) (called .ensures .1 .1)
 
 pub submit-found-spec : {M : Type 1} → statement M
 submit-found-spec =
@@ -185,7 +217,7 @@ submit-found-spec =
     enum-known-received-2
     enum-known-received-3
     case-from-requires
-    mul-from
+    seat-from-requires
     add-to
     mul-judge-in
     sub-judge-in

@@ -1,4 +1,4 @@
--- The place is below 16, so nothing overflows, and a number of 0 counts as 1.
+-- The place is one of the seat, so nothing overflows, and a number of 0 counts as 1.
 use native.Mathlib.Omega.{arith}
 use Rattle.seat.proofs.Named.{place-low, number-none, number-some}
 use borrow.Author.Needs.{needs}
