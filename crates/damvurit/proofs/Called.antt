@@ -16,7 +16,7 @@ use Rattle.centre.specs.Calls.{openTold, openAfter, setTold, setAfter, readTold
 use Rattle.centre.specs.Submit.{submitTold, submitAfter, submitSlip}
 use Rattle.centre.proofs.LentDirectories.{open-by, set-by, submit-by, read-by}
 use Rattle.damvurit.specs.Flat.{flatDirectory}
-use Rattle.damvurit.specs.Boundary.{detailMost, result, openingIn, openResult}
+use Rattle.damvurit.specs.Boundary.{detailMost, detailUnit, result, openingIn, openResult}
 use Rattle.damvurit.proofs.Formed.{number-low}
 
 -- the detail of an answer is the one that the call tells
@@ -70,6 +70,6 @@ module _ (answer : Answer) (t : Told) (e : told answer ≡ t) (none : t .detail 
       let same : told answer .detail ≡ t .detail = ap (λ (x : Told). x .detail) e in
       omega (arith, number-low answer)
 
-  pub open-result : r + 256 * n ≡ openResult t
+  pub open-result : r + detailUnit * n ≡ openResult t
   unfolding openResult
   open-result = rw (is, gives, e)

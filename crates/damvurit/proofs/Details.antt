@@ -1,5 +1,6 @@
--- No call tells a detail above 8192: most refusals have none, a place is at most the length of the longest sheet, a field is one of fourteen, and
--- who is not taken failed check 1 or 2. And no opening number is above 65,536. So every result fits a number with room to spare.
+-- No call tells a detail above the place of a sheet that is too long: most refusals have none, a place is at most the length of the longest
+-- sheet, a field is one of fourteen, and who is not taken failed check 1 or 2. And no opening number is above 65,536. So every result fits a
+-- number with room to spare.
 -- Assumes nothing.
 use mathlib.Core.Path.{_≡_, refl}
 use mathlib.Core.Bool.{Bool, true, false, not, _&&_, cond}

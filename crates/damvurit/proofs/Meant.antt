@@ -22,24 +22,24 @@ use Rattle.centre.specs.declared.Answer.{Answer}
 use Rattle.centre.specs.declared.Answer.the-variants.{Opened, Holds, Says}
 use Rattle.centre.specs.Answers.{told, slipValues}
 use Rattle.damvurit.specs.Flat.{flatGood, flatDirectory}
-use Rattle.damvurit.specs.Boundary.{outOf, seven, six, openResult, result, limitOf, ltkOf, wishOf}
+use Rattle.damvurit.specs.Boundary.{detailUnit, outOf, seven, six, openResult, result, limitOf, ltkOf, wishOf}
 use Rattle.damvurit.proofs.Formed.{number-low}
 
 -- as the two macros of the header read a result
 module _ (answer : Answer) where
-  small : told answer .number < 256
+  small : told answer .number < detailUnit
   small = omega (arith, number-low answer)
 
-  pub number-back : result (told answer) % 256 ≡ told answer .number
+  pub number-back : result (told answer) % detailUnit ≡ told answer .number
   unfolding result
-  number-back = add-mul-mod-self-left (told answer .number) 256 (told answer .detail) ∙ mod-eq-of-lt small
+  number-back = add-mul-mod-self-left (told answer .number) detailUnit (told answer .detail) ∙ mod-eq-of-lt small
 
-  pub detail-back : result (told answer) / 256 ≡ told answer .detail
+  pub detail-back : result (told answer) / detailUnit ≡ told answer .detail
   unfolding result
   detail-back = add-mul-div-left (told answer .number) (told answer .detail) (omega arith) ∙ rw (div-eq-of-lt small) (omega arith)
 
 -- what is given back comes whole: an opening number, the seven numbers of an account, the six of a slip
-pub opening-whole : (opening : ℕ) → openResult (told (Opened opening)) ≡ 256 * opening
+pub opening-whole : (opening : ℕ) → openResult (told (Opened opening)) ≡ detailUnit * opening
 unfolding openResult result told outOf
 opening-whole opening = omega arith
 

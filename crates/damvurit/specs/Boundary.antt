@@ -7,6 +7,7 @@ use Prim.Native.Nat.{ℕ, _+_, _-_, _*_}
 use lib.Dec.{leb, eqb}
 use lib.ListN.{length, getD, replicate}
 use Rattle.slip.specs.declared.Slip.{Slip}
+use Rattle.sheet.specs.Grammar.{sheetMost}
 use Rattle.journal.specs.Steps.{sumMost}
 use Rattle.seat.specs.declared.calls.Limit.{Limit}
 use Rattle.seat.specs.declared.calls.Limit.the-variants.{Of, None}
@@ -14,13 +15,17 @@ use Rattle.seat.specs.declared.calls.Wish.{Wish}
 use Rattle.centre.specs.declared.Ticket.{Ticket}
 use Rattle.centre.specs.Answers.{Told}
 
--- the result of a call: its number, and above it the detail. No number is above 12, and no detail above 8192, the place of a sheet that is too
--- long (`proofs/Details.antt`)
+-- the result of a call: its number, and above it the detail. No number is above 12, and no detail above the place of a sheet that is too long
+-- (`proofs/Details.antt`)
 abbrev pub detailMost : ℕ
-detailMost = 8192
+detailMost = sheetMost
+
+-- what one of a detail counts in a result
+abbrev pub detailUnit : ℕ
+detailUnit = 256
 
 unfoldable pub result : Told → ℕ
-result t = t .number + 256 * t .detail
+result t = t .number + detailUnit * t .detail
 
 -- what is left in an array that was lent for values: the values, where there are so many. A refusal has none, and leaves zeros
 unfoldable pub outOf : ℕ → Told → List ℕ
@@ -38,7 +43,7 @@ abbrev pub openingIn : Told → ℕ
 openingIn t = getD (outOf 1 t) 0 0
 
 unfoldable pub openResult : Told → ℕ
-openResult t = result t + 256 * openingIn t
+openResult t = result t + detailUnit * openingIn t
 
 -- a ticket and a slip by their numbers
 abbrev pub ticketOf : ℕ → ℕ → Ticket

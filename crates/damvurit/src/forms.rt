@@ -8,6 +8,9 @@ ghost use Prim.Native.Nat.{_≤_};
 ghost use Rattle.centre.specs.Answers.{told};
 ghost use Rattle.damvurit.specs.Boundary.{detailMost, result, seven, six, openingIn, limitOf, ltkOf, wishOf};
 
+// What one of a detail counts in a result.
+pub const DETAIL_UNIT: u64 = 256;
+
 // The result of a call. No call tells a higher detail than is asked here.
 pub fn result_of(answer: Answer) -> u64
     requires { ⌜ told answer .detail ≤ detailMost ⌝ }
@@ -24,12 +27,12 @@ pub fn result_of(answer: Answer) -> u64
         Answer::AlreadyOpen => 4,
         Answer::NoOpeningLeft => 5,
         Answer::BadNumber => 6,
-        Answer::IllFormed(place) => 7 + 256 * place as u64,
-        Answer::BadField(number) => 8 + 256 * number as u64,
+        Answer::IllFormed(place) => 7 + DETAIL_UNIT * place as u64,
+        Answer::BadField(number) => 8 + DETAIL_UNIT * number as u64,
         Answer::JournalFull => 9,
         Answer::NothingToTakeBack => 10,
         Answer::NoSlip => 11,
-        Answer::NotTaken(check) => 12 + 256 * check,
+        Answer::NotTaken(check) => 12 + DETAIL_UNIT * check,
     }
 }
 

@@ -16,6 +16,7 @@ use centre::submit_among;
 use centre::take_back;
 use centre::write_slip;
 use flat::gather_flat;
+use forms::DETAIL_UNIT;
 use forms::account_in;
 use forms::opening_in;
 use forms::result_of;
@@ -61,7 +62,7 @@ pub extern "C" fn damvurit_open(room: &mut [u64], dir: &[u64], seat: u64, sums: 
 {
     let g = gather_flat(dir);
     let answer = open_among(room, g, seat, sums);
-    result_of(answer) + 256 * opening_in(answer)
+    result_of(answer) + DETAIL_UNIT * opening_in(answer)
 }
 
 // Closes a seat.

@@ -1,4 +1,4 @@
--- The centre's call is this one, on the directory that the numbers are; an opening number is small, so that 256 of it fit.
+-- The centre's call is this one, on the directory that the numbers are; an opening number is small, so that as many units as it says fit.
 use native.Mathlib.Omega.{arith}
 use Rattle.damvurit.specs.Flat.{flatDirectory}
 use Rattle.damvurit.proofs.Called.{plain, open-called, opening-few, result-few, open-result}

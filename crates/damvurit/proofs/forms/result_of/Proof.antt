@@ -1,4 +1,4 @@
--- Each arm is a line of the definition of what is told, by its number. A detail that is told is at most 8192, so that 256 of it fit.
+-- Each arm is a line of the definition of what is told, by its number. A detail that is told is small, so that as many units as it says fit.
 use native.Mathlib.Omega.{arith}
 use Rattle.centre.specs.Answers.{told}
 use Rattle.damvurit.specs.Boundary.{result}
