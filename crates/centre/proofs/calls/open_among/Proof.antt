@@ -53,18 +53,20 @@ same-length-2 c = search needs
 
 returns-2 : tie.Need-returns-2
 returns-2 c =
-    let given = c .before .before .before .before .before .before .before .args in
-    open-unlisted (given .g) (given .seat) (given .sums .now) (given .room .now)
-    (room-good (c .before .before)) (places-full (c .before .before .before .before .before .before .before)) (sym (c .before .fits2 .ensures) ∙ not-true _ (c .if2 .taken))
+    let begun : tie.Start = c .before .before .before .before .before .before .before in
+    let given = begun .args in
+    open-unlisted (given .g) (given .seat) (given .sums .now) (given .room .now) (room-good (c .before .before)) (places-full begun)
+    (sym (c .before .fits2 .ensures) ∙ not-true _ (c .if2 .taken))
 
 same-length-3 : tie.Need-same-length-3
 same-length-3 c = search needs
 
 returns-3 : tie.Need-returns-3
 returns-3 c =
-    let given = c .before .before .before .before .before .before .before .before .args in
-    open-no-seat (given .g) (given .seat) (given .sums .now) (given .room .now)
-    (room-good (c .before .before .before)) (places-full (c .before .before .before .before .before .before .before .before)) (listed (c .before)) (c .if3 .taken)
+    let begun : tie.Start = c .before .before .before .before .before .before .before .before in
+    let given = begun .args in
+    open-no-seat (given .g) (given .seat) (given .sums .now) (given .room .now) (room-good (c .before .before .before)) (places-full begun)
+    (listed (c .before)) (c .if3 .taken)
 
 seat-from-requires : tie.Need-seat-from-requires
 seat-from-requires c κs = c .if3 .left
