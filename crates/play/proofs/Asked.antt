@@ -27,7 +27,7 @@ module _ (s : List ℕ) (b : Bool) (e : b ≡ seatFits s) (t : not b ≡ false) 
   long = fit-long s fits
 
   -- to record a step
-  pub step-asks : (h : Head) → h ≡ headOf s → h .opened ≡ 1 → h .steps < 24 → (x : Step) (p : Bool) → p ≡ possible x s → not p ≡ false
+  pub step-asks : (h : Head) → h ≡ headOf s → h .opened ≡ 1 → h .steps < steps → (x : Step) (p : Bool) → p ≡ possible x s → not p ≡ false
       → Low s × (stepFits x ≡ true) × (headOf s .steps < steps)
   step-asks h k o few x p q n =
       let count : h .steps ≡ headOf s .steps = ap (λ (y : Head). y .steps) k in (

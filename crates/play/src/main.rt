@@ -29,6 +29,7 @@ use shape::stored::Identifier;
 use shape::stored::Uetr;
 use shape::stored::identifier_of;
 use shape::stored::uetr_of;
+use slip::STEPS;
 ghost use Prim.Native.Nat.{_≤_};
 ghost use mathlib.Core.Path.{_≡_};
 ghost use mathlib.Core.Bool.{true};
@@ -59,7 +60,7 @@ fn number_of(answer: Answer) -> u64 {
 
 // The seat's head and the accounts of the first two places.
 fn show(s: &[u64]) {
-    if s.len() != 923 {
+    if s.len() != SEAT_LONG {
         return;
     }
     let h = head(s);
@@ -197,7 +198,7 @@ fn play_step(s: &mut [u64], x: Step) {
     if h.opened != 1 {
         return;
     }
-    if 24 <= h.steps {
+    if STEPS <= h.steps {
         return;
     }
     if !is_possible(s, x) {

@@ -3,12 +3,13 @@ use mathlib.Core.Path.{_≡_}
 use Prim.Native.Nat.{_≤_, _-_}
 use native.Mathlib.Omega.{arith}
 use lib.ListN.{length}
+use Rattle.layout.specs.Seat.{seatLong}
 use borrow.Author.Needs.{needs}
 use Rattle.play.proofs.show.Statement.{statement}
 use Rattle.play.proofs.show.Tie as tie
 
 abbrev Inv-loop : tie.InvT-loop
-Inv-loop s i₀ t6 t7 i = (i ≤ 4) × (length s ≡ 923)
+Inv-loop s i₀ t6 t7 i = (i ≤ 4) × (length s ≡ seatLong)
 
 abbrev μ-loop : tie.MeasureT-loop
 μ-loop s i₀ t6 t7 i = 4 - i
