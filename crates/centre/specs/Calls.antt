@@ -1,21 +1,33 @@
 -- The calls of a room that need no message: document 01, "Calls and refusals". Of each call the table of its refusals, in their order, with its
--- answer, and the room behind it. A seat is a part of the room; all that a call does to a room is done to its seat.
-use mathlib.Core.Bool.{Bool, not, _&&_, _||_}
+-- answer, and the room after it. A seat is a part of the room; all that a call does to a room is done to its seat. The tests of the refusals have
+-- their names in `seat` and, where they are about the whole room, here.
+use mathlib.Core.Bool.{Bool, not, _||_}
 use mathlib.Core.List.{List, [], _∷_}
 use Prim.Native.Nat.{ℕ, suc}
 use lib.Dec.{leb, eqb}
 use lib.ListN.{length, replicate}
-use Rattle.slip.specs.Meaning.{seats, openings, steps}
+use Rattle.slip.specs.Meaning.{seats}
 use Rattle.directory.specs.declared.Participant.{Participant}
 use Rattle.directory.specs.declared.Found.{Found}
 use Rattle.directory.specs.Directory.{found, isFit}
 use Rattle.layout.specs.Rows.{accountRow}
 use Rattle.layout.specs.Seat.{roomLong, headOf, accountOf, seatOf, withSeat}
-use Rattle.journal.specs.Steps.{settingsFit}
 use Rattle.journal.specs.Working.{stepped, backed}
 use Rattle.seat.specs.declared.calls.Wish.{Wish}
 use Rattle.seat.specs.Fit.{closedSeat, openSeat, roomFits}
-use Rattle.seat.specs.Calls.{noTicket, sumsGood, accountNamed, accountNumber, settingsOf, setStep}
+use Rattle.seat.specs.Calls.{
+  noTicket,
+  seatOpen,
+  lastGivenOut,
+  journalFull,
+  nothingToTakeBack,
+  sumsBad,
+  accountBad,
+  settingBad,
+  accountNumber,
+  settingsOf,
+  setStep,
+}
 use Rattle.centre.specs.declared.Ticket.{Ticket}
 use Rattle.centre.specs.Answers.{Told, done, refused, first, behind}
 
@@ -26,9 +38,13 @@ noSeat seat = leb seats seat
 unfoldable pub ticketBad : Ticket → List ℕ → Bool
 ticketBad ticket room = noSeat (ticket .seat) || noTicket (ticket .opening) (seatOf room (ticket .seat))
 
+-- 1, for laying out: the length is wrong
+abbrev pub lengthWrong : List ℕ → Bool
+lengthWrong room = not (eqb (length room) roomLong)
+
 -- lay out a room: it looks at the length alone, and makes everything zero
 unfoldable pub layTold : List ℕ → Told
-layTold room = first ((not (eqb (length room) roomLong), refused 1) ∷ []) (done [])
+layTold room = first ((lengthWrong room, refused 1) ∷ []) (done [])
 
 unfoldable pub layAfter : List ℕ → List ℕ
 layAfter room = behind (layTold room) (replicate roomLong 0) room
@@ -40,9 +56,9 @@ openTold dir seat sums room =
     (not (roomFits room), refused 1)
     ∷ (not (isFit dir), refused 2)
     ∷ (noSeat seat, refused 3)
-    ∷ (eqb (headOf (seatOf room seat) .opened) 1, refused 4)
-    ∷ (eqb (headOf (seatOf room seat) .opening) openings, refused 5)
-    ∷ (not (sumsGood dir sums), refused 6)
+    ∷ (seatOpen (seatOf room seat), refused 4)
+    ∷ (lastGivenOut (seatOf room seat), refused 5)
+    ∷ (sumsBad dir sums, refused 6)
     ∷ []) (done (suc (headOf (seatOf room seat) .opening) ∷ []))
 
 unfoldable pub openAfter : List Participant → ℕ → List ℕ → List ℕ → List ℕ
@@ -64,8 +80,8 @@ setBy fit owner ticket number wish room =
     (not (roomFits room), refused 1)
     ∷ (not fit, refused 2)
     ∷ (ticketBad ticket room, refused 3)
-    ∷ (not (accountNamed owner number && settingsFit (settingsOf wish)), refused 6)
-    ∷ (eqb (headOf (seatOf room (ticket .seat)) .steps) steps, refused 9)
+    ∷ (settingBad owner number (settingsOf wish), refused 6)
+    ∷ (journalFull (seatOf room (ticket .seat)), refused 9)
     ∷ []) (done [])
 
 unfoldable pub setTold : List Participant → Ticket → ℕ → ℕ → Wish → List ℕ → Told
@@ -89,7 +105,7 @@ backTold ticket room =
     first (
     (not (roomFits room), refused 1)
     ∷ (ticketBad ticket room, refused 3)
-    ∷ (eqb (headOf (seatOf room (ticket .seat)) .steps) 0, refused 10)
+    ∷ (nothingToTakeBack (seatOf room (ticket .seat)), refused 10)
     ∷ []) (done [])
 
 unfoldable pub backAfter : Ticket → List ℕ → List ℕ
@@ -103,7 +119,7 @@ readBy fit owner ticket number room =
     (not (roomFits room), refused 1)
     ∷ (not fit, refused 2)
     ∷ (ticketBad ticket room, refused 3)
-    ∷ (not (accountNamed owner number), refused 6)
+    ∷ (accountBad owner number, refused 6)
     ∷ []) (done (accountRow (accountOf (seatOf room (ticket .seat)) (accountNumber owner number))))
 
 unfoldable pub readTold : List Participant → Ticket → ℕ → ℕ → List ℕ → Told

@@ -1,15 +1,16 @@
 -- Submit: a message of a sender, on a date, as a sheet. Document 01, "Calls and refusals", "The checks", "The slip". A message that passes refusal
--- 12 is one step, carried out or not, and its slip stands in the first five bytes of the buffer.
+-- 12 is one step, carried out or not, and its slip stands in the first bytes of the buffer.
 use mathlib.Core.Bool.{Bool, true, not, _&&_, _||_}
 use mathlib.Core.List.{List, [], _∷_, _++_}
 use mathlib.Core.Path.{_≡_}
 use Prim.Native.Nat.{ℕ, suc}
-use lib.Dec.{leb, ltb, eqb}
-use lib.ListN.{length, drop}
+use lib.Dec.{leb, eqb}
+use lib.ListN.{drop}
 use Rattle.shape.specs.Dates.{isDate}
 use Rattle.slip.specs.declared.Slip.{Slip}
-use Rattle.slip.specs.Meaning.{steps, kindNumber}
+use Rattle.slip.specs.Meaning.{slipLong}
 use Rattle.slip.specs.Image.{image}
+use Rattle.slip.specs.Answers.{bufferShort}
 use Rattle.message.specs.declared.Message.{Message}
 use Rattle.message.specs.declared.Answer.{Answer}
 use Rattle.message.specs.declared.Answer.the-variants.{IllFormed, BadField, Good}
@@ -21,6 +22,7 @@ use Rattle.layout.specs.Seat.{headOf, seatOf, withSeat}
 use Rattle.journal.specs.Steps.{noStep}
 use Rattle.journal.specs.Working.{stepped}
 use Rattle.seat.specs.Fit.{roomFits}
+use Rattle.seat.specs.Calls.{journalFull}
 use Rattle.judge.specs.declared.case.Case.{Case}
 use Rattle.judge.specs.declared.case.Looked.{Looked}
 use Rattle.judge.specs.Case.{lookedUp, caseOf}
@@ -39,6 +41,17 @@ verdictOn cases (BadField number) s = 0
 unfoldable pub notTaken : ℕ → Bool
 notTaken check = eqb check 1 || eqb check 2
 
+-- 6, submitting: the sender or the date is bad
+abbrev pub callBad : ℕ → ℕ → Bool
+callBad sender today = not (leb sender codeMost && isDate today)
+
+-- 7: the sheet is ill-formed. 8: the message is unknown, or a field missing, doubled or ill-shaped
+abbrev pub sheetBad : Answer → Bool
+sheetBad received = eqb (numberOf received .0) 7
+
+abbrev pub fieldBad : Answer → Bool
+fieldBad received = eqb (numberOf received .0) 8
+
 -- the step that it is
 unfoldable pub stepOn : (Message → Case) → Answer → List ℕ → Step
 stepOn cases (Good m) s = stepMade (cases m) (outcome (cases m) s)
@@ -56,7 +69,7 @@ slipOf ticket number x = record {
   step = number;
 }
 
--- a message in its seat: the answer, the seat and the buffer behind it
+-- a message in its seat: the answer, the seat and the buffer after it
 unfoldable pub judgedTold : Case → List ℕ → Told
 judgedTold c s = first ((notTaken (verdict c s), refusedWith 12 (verdict c s)) ∷ []) (done [])
 
@@ -65,7 +78,7 @@ judgedAfter c s = behind (judgedTold c s) (stepped (stepMade c (outcome c s)) s)
 
 unfoldable pub judgedSlip : Ticket → Case → List ℕ → List ℕ → List ℕ
 judgedSlip ticket c s slip =
-    behind (judgedTold c s) (image (slipOf ticket (suc (headOf s .steps)) (stepMade c (outcome c s))) ++ drop 5 slip) slip
+    behind (judgedTold c s) (image (slipOf ticket (suc (headOf s .steps)) (stepMade c (outcome c s))) ++ drop slipLong slip) slip
 
 -- submit what a sheet was received as. Of the directory it matters whether it is fit and what case a message is by it
 abbrev pub submitBy : Bool → (Message → Case) → Ticket → ℕ → ℕ → Answer → List ℕ → List ℕ → Told
@@ -75,11 +88,11 @@ submitBy fit cases ticket sender today received slip room =
     (not (roomFits room), refused 1)
     ∷ (not fit, refused 2)
     ∷ (ticketBad ticket room, refused 3)
-    ∷ (not (leb sender codeMost && isDate today), refused 6)
-    ∷ (ltb (length slip) 5, refused 11)
-    ∷ (eqb (headOf s .steps) steps, refused 9)
-    ∷ (eqb (numberOf received .0) 7, refusedWith 7 (numberOf received .1))
-    ∷ (eqb (numberOf received .0) 8, refusedWith 8 (numberOf received .1))
+    ∷ (callBad sender today, refused 6)
+    ∷ (bufferShort slip, refused 11)
+    ∷ (journalFull s, refused 9)
+    ∷ (sheetBad received, refusedWith 7 (numberOf received .1))
+    ∷ (fieldBad received, refusedWith 8 (numberOf received .1))
     ∷ (notTaken (verdictOn cases received s), refusedWith 12 (verdictOn cases received s))
     ∷ []) (done [])
 
@@ -87,7 +100,7 @@ unfoldable pub submitTold : List Participant → Ticket → ℕ → ℕ → List
 submitTold dir ticket sender today sheet slip room =
     submitBy (isFit dir) (caseOf dir sender today) ticket sender today (receivedOf sheet .answer) slip room
 
--- the room behind it: one step more in the seat
+-- the room after it: one step more in the seat
 abbrev pub submitLeft : Bool → (Message → Case) → Ticket → ℕ → ℕ → Answer → List ℕ → List ℕ → List ℕ
 submitLeft fit cases ticket sender today received slip room =
     let s : List ℕ = seatOf room (ticket .seat) in
@@ -98,12 +111,12 @@ unfoldable pub submitAfter : List Participant → Ticket → ℕ → ℕ → Lis
 submitAfter dir ticket sender today sheet slip room =
     submitLeft (isFit dir) (caseOf dir sender today) ticket sender today (receivedOf sheet .answer) slip room
 
--- the buffer behind it: the slip in the first five bytes, the rest as it was
+-- the buffer after it: the slip in its first bytes, the rest as it was
 abbrev pub submitWritten : Bool → (Message → Case) → Ticket → ℕ → ℕ → Answer → List ℕ → List ℕ → List ℕ
 submitWritten fit cases ticket sender today received slip room =
     let s : List ℕ = seatOf room (ticket .seat) in
     behind (submitBy fit cases ticket sender today received slip room)
-    (image (slipOf ticket (suc (headOf s .steps)) (stepOn cases received s)) ++ drop 5 slip) slip
+    (image (slipOf ticket (suc (headOf s .steps)) (stepOn cases received s)) ++ drop slipLong slip) slip
 
 unfoldable pub submitSlip : List Participant → Ticket → ℕ → ℕ → List ℕ → List ℕ → List ℕ → List ℕ
 submitSlip dir ticket sender today sheet slip room =

@@ -17,17 +17,17 @@ use Rattle.centre.specs.Slips.{writeTold, readTold as slipTold}
 -- an owner's account 1 or 2
 pub data Act : Type 0 where
   close : Act
-  set : ℕ → ℕ → Wish → Act
-  submit : ℕ → ℕ → List ℕ → List ℕ → Act
+  set : (owner number : ℕ) → (wish : Wish) → Act
+  submit : (sender today : ℕ) → (sheet slip : List ℕ) → Act
   takeBack : Act
-  read : ℕ → ℕ → Act
+  read : (owner number : ℕ) → Act
 
 -- open a seat with sums; act under a ticket; write a slip into a buffer; read one
 pub data Call : Type 0 where
-  opening : ℕ → List ℕ → Call
-  under : Ticket → Act → Call
-  writing : Slip → List ℕ → Call
-  reading : List ℕ → Call
+  opening : (seat : ℕ) → (sums : List ℕ) → Call
+  under : (ticket : Ticket) → (act : Act) → Call
+  writing : (slip : Slip) → (buffer : List ℕ) → Call
+  reading : (bytes : List ℕ) → Call
 
 module _ (dir : List Participant) where
   -- what a call answers in a room

@@ -5,23 +5,21 @@ use mathlib.Core.Bool.{Bool, true, false, not, _&&_, _||_, cond}
 use mathlib.Core.List.{List, [], _∷_, _++_}
 use mathlib.Core.Path.{_≡_}
 use Prim.Native.Nat.{ℕ}
-use lib.Dec.{leb, ltb, eqb}
+use lib.Dec.{eqb}
 use lib.ListN.{length}
 use Rattle.shape.specs.Bytes.{every}
-use Rattle.shape.specs.Dates.{isDate}
-use Rattle.slip.specs.Meaning.{openings, steps}
-use Rattle.slip.specs.Answers.{canWrite, holdsSlip}
+use Rattle.slip.specs.Answers.{bufferShort}
 use Rattle.message.specs.Received.{numberOf, receivedOf}
 use Rattle.directory.specs.declared.Participant.{Participant}
-use Rattle.directory.specs.Directory.{codeMost, found, isFit}
-use Rattle.layout.specs.Seat.{roomLong, headOf, seatOf}
-use Rattle.journal.specs.Steps.{settingsFit}
+use Rattle.directory.specs.Directory.{found, isFit}
+use Rattle.layout.specs.Seat.{roomLong, seatOf}
 use Rattle.seat.specs.Fit.{roomFits}
-use Rattle.seat.specs.Calls.{sumsGood, accountNamed, settingsOf}
+use Rattle.seat.specs.Calls.{seatOpen, lastGivenOut, journalFull, nothingToTakeBack, sumsBad, accountBad, settingBad, settingsOf}
 use Rattle.judge.specs.Case.{caseOf}
 use Rattle.centre.specs.declared.Ticket.{Ticket}
 use Rattle.centre.specs.Calls.{noSeat, ticketBad, layTold, layAfter}
-use Rattle.centre.specs.Submit.{notTaken, verdictOn}
+use Rattle.centre.specs.Slips.{writeBad, readBad}
+use Rattle.centre.specs.Submit.{callBad, sheetBad, fieldBad, notTaken, verdictOn}
 use Rattle.demands.specs.Calls.{Act, close, set, submit, takeBack, read, Call, opening, under, writing, reading, callTold, callRoom, callSlip, slipLent}
 
 -- none of these rows applies
@@ -71,26 +69,29 @@ module _ (dir : List Participant) (room : List ℕ) where
 
   -- 4: opening a seat that is open
   unfoldable pub openRefused : Call → Bool
-  openRefused call = ofOpening (λ seat sums. eqb (headOf (seatOf room seat) .opened) 1) call
+  openRefused call = ofOpening (λ seat sums. seatOpen (seatOf room seat)) call
 
   -- 5: the seat's opening number 65,535 was given out
   unfoldable pub lastRefused : Call → Bool
-  lastRefused call = ofOpening (λ seat sums. eqb (headOf (seatOf room seat) .opening) openings) call
+  lastRefused call = ofOpening (λ seat sums. lastGivenOut (seatOf room seat)) call
 
   -- 6: a sum, limit, date, sender, account number or account owner is bad; a wrong count of sums; a sum not 0 for a non-owner
   abbrev pub numberBad : Act → Bool
   numberBad close = false
-  numberBad (set owner number wish) = not (accountNamed (found dir owner) number && settingsFit (settingsOf wish))
-  numberBad (submit sender today sheet slip) = not (leb sender codeMost && isDate today)
+  numberBad (set owner number wish) = settingBad (found dir owner) number (settingsOf wish)
+  numberBad (submit sender today sheet slip) = callBad sender today
   numberBad takeBack = false
-  numberBad (read owner number) = not (accountNamed (found dir owner) number)
+  numberBad (read owner number) = accountBad (found dir owner) number
 
   unfoldable pub numberRefused : Call → Bool
-  numberRefused call = ofOpening (λ seat sums. not (sumsGood dir sums)) call || ofActs (λ ticket act. numberBad act) call
+  numberRefused call = ofOpening (λ seat sums. sumsBad dir sums) call || ofActs (λ ticket act. numberBad act) call
 
   -- 7: sheet ill-formed; 8: unknown message, or a field missing, doubled or ill-shaped
-  abbrev pub sheetRefused : ℕ → Act → Bool
-  sheetRefused n act = ofSubmit false (λ sender today sheet slip. eqb (numberOf (receivedOf sheet .answer) .0) n) act
+  abbrev pub sheetRefused : Act → Bool
+  sheetRefused act = ofSubmit false (λ sender today sheet slip. sheetBad (receivedOf sheet .answer)) act
+
+  abbrev pub fieldRefused : Act → Bool
+  fieldRefused act = ofSubmit false (λ sender today sheet slip. fieldBad (receivedOf sheet .answer)) act
 
   -- 9: submit or set with 24 steps
   abbrev pub makesStep : Act → Bool
@@ -99,9 +100,6 @@ module _ (dir : List Participant) (room : List ℕ) where
   makesStep (submit sender today sheet slip) = true
   makesStep takeBack = false
   makesStep (read owner number) = false
-
-  abbrev pub stepsIn : Ticket → ℕ
-  stepsIn ticket = headOf (seatOf room (ticket .seat)) .steps
 
   -- 10: take back with no step
   abbrev pub takesBack : Act → Bool
@@ -112,14 +110,11 @@ module _ (dir : List Participant) (room : List ℕ) where
   takesBack (read owner number) = false
 
   -- 11: slip buffer under 5 bytes; to write, fields that no slip has; to read, not exactly a slip
-  abbrev pub bufferShort : Act → Bool
-  bufferShort act = ofSubmit false (λ sender today sheet slip. ltb (length slip) 5) act
-
   unfoldable pub slipRefused : Call → Bool
   slipRefused (opening seat sums) = false
-  slipRefused (under ticket act) = bufferShort act
-  slipRefused (writing slip buffer) = not (canWrite slip buffer)
-  slipRefused (reading bytes) = not (holdsSlip bytes)
+  slipRefused (under ticket act) = ofSubmit false (λ sender today sheet slip. bufferShort slip) act
+  slipRefused (writing slip buffer) = writeBad slip buffer
+  slipRefused (reading bytes) = readBad bytes
 
   -- 12: submit fails check 1 or 2
   abbrev pub checkOf : Ticket → Act → ℕ
@@ -136,10 +131,10 @@ module _ (dir : List Participant) (room : List ℕ) where
       ∷ (5, lastRefused call)
       ∷ (6, numberRefused call)
       ∷ (11, slipRefused call)
-      ∷ (9, ofActs (λ ticket act. makesStep act && eqb (stepsIn ticket) steps) call)
-      ∷ (10, ofActs (λ ticket act. takesBack act && eqb (stepsIn ticket) 0) call)
-      ∷ (7, ofActs (λ ticket act. sheetRefused 7 act) call)
-      ∷ (8, ofActs (λ ticket act. sheetRefused 8 act) call)
+      ∷ (9, ofActs (λ ticket act. makesStep act && journalFull (seatOf room (ticket .seat))) call)
+      ∷ (10, ofActs (λ ticket act. takesBack act && nothingToTakeBack (seatOf room (ticket .seat))) call)
+      ∷ (7, ofActs (λ ticket act. sheetRefused act) call)
+      ∷ (8, ofActs (λ ticket act. fieldRefused act) call)
       ∷ (12, ofActs (λ ticket act. notTaken (checkOf ticket act)) call)
       ∷ []
 

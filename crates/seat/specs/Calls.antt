@@ -1,6 +1,7 @@
 -- The calls of one seat that need no message, and recording one: document 01, "Calls and refusals". Of each call the answer, which is the first
--- refusal in its table whose test holds, and the seat behind it, which is as it came where the call is refused.
--- Refusals 1 and 2 are tests of the whole room and of the directory, and stand in front of these.
+-- refusal in its table whose test holds, and the seat after it, which is as it came where the call is refused.
+-- Refusals 1 and 2 are tests of the whole room and of the directory, and stand in front of these. Each test of a refusal has its name and stands
+-- once; the tables here, those of the centre and that of demand 1 cite the names.
 use mathlib.Core.Bool.{Bool, true, false, not, _&&_, _||_, cond}
 use mathlib.Core.List.{List, [], _∷_}
 use Prim.Native.Nat.{ℕ, suc, _+_, _-_, _*_}
@@ -49,13 +50,29 @@ abbrev pub first : List (Bool × Answer) → Answer
 first [] = Done
 first (r ∷ rest) = cond (r .0) (r .1) (first rest)
 
--- the seat behind a call: done, or as it came
+-- the seat after a call: done, or as it came
 abbrev pub behind : Answer → List ℕ → List ℕ → List ℕ
 behind answer done s = cond (isDone answer) done s
 
 -- 3: the seat is closed or its opening number differs
 unfoldable pub noTicket : ℕ → List ℕ → Bool
 noTicket opening s = not (eqb (headOf s .opened) 1 && eqb (headOf s .opening) opening)
+
+-- 4: the seat is open
+abbrev pub seatOpen : List ℕ → Bool
+seatOpen s = eqb (headOf s .opened) 1
+
+-- 5: the seat's last opening number was given out
+abbrev pub lastGivenOut : List ℕ → Bool
+lastGivenOut s = eqb (headOf s .opening) openings
+
+-- 9: the journal has its 24 steps
+abbrev pub journalFull : List ℕ → Bool
+journalFull s = eqb (headOf s .steps) steps
+
+-- 10: there is no step to take back
+abbrev pub nothingToTakeBack : List ℕ → Bool
+nothingToTakeBack s = eqb (headOf s .steps) 0
 
 -- two sums for each record, each at most 10^15, and 0 for one that is no owner
 unfoldable pub pairGood : Participant → ℕ → ℕ → Bool
@@ -69,13 +86,17 @@ sumsGood (p ∷ dir) (a ∷ []) = false
 sumsGood (p ∷ dir) (a ∷ b ∷ sums) =
     pairGood p a b && sumsGood dir sums
 
+-- 6, opening: a sum is bad or not 0 for a non-owner, or their count is wrong
+abbrev pub sumsBad : List Participant → List ℕ → Bool
+sumsBad dir sums = not (sumsGood dir sums)
+
 -- open
 unfoldable pub openAnswer : List Participant → List ℕ → List ℕ → Answer
 openAnswer dir sums s =
     first (
-    (eqb (headOf s .opened) 1, AlreadyOpen)
-    ∷ (eqb (headOf s .opening) openings, NoOpeningLeft)
-    ∷ (not (sumsGood dir sums), BadNumber)
+    (seatOpen s, AlreadyOpen)
+    ∷ (lastGivenOut s, NoOpeningLeft)
+    ∷ (sumsBad dir sums, BadNumber)
     ∷ [])
 
 unfoldable pub openAfter : List Participant → List ℕ → List ℕ → List ℕ
@@ -91,6 +112,10 @@ closeAfter opening s = behind (closeAnswer opening s) (closedSeat (headOf s .ope
 -- an account is named by its owner's place and by 1 or 2
 unfoldable pub accountNamed : Found → ℕ → Bool
 accountNamed owner number = ownerFound owner && (eqb number 1 || eqb number 2)
+
+-- 6, reading and setting: the owner or the account number is bad
+abbrev pub accountBad : Found → ℕ → Bool
+accountBad owner number = not (accountNamed owner number)
 
 abbrev pub accountNumber : Found → ℕ → ℕ
 accountNumber (At place p) number = 2 * place + (number - 1)
@@ -116,6 +141,10 @@ limitNumber (limit.Of n) = cond (leb n sumMost) (n + 1) (sumMost + 2)
 unfoldable pub settingsOf : Wish → Settings
 settingsOf w = record { out = blockNumber (w .out); into = blockNumber (w .into); ltk = w .ltk; lpo = limitNumber (w .lpo) }
 
+-- 6, setting: the account or a limit is bad
+abbrev pub settingBad : Found → ℕ → Settings → Bool
+settingBad owner number given = not (accountNamed owner number && settingsFit given)
+
 -- set
 abbrev pub setStep : ℕ → Settings → Settings → Step
 setStep account old given = record {
@@ -139,8 +168,8 @@ unfoldable pub setAnswer : ℕ → Found → ℕ → Settings → List ℕ → A
 setAnswer opening owner number given s =
     first (
     (noTicket opening s, NoTicket)
-    ∷ (not (accountNamed owner number && settingsFit given), BadNumber)
-    ∷ (eqb (headOf s .steps) steps, JournalFull)
+    ∷ (settingBad owner number given, BadNumber)
+    ∷ (journalFull s, JournalFull)
     ∷ [])
 
 unfoldable pub setAfter : ℕ → Found → ℕ → Settings → List ℕ → List ℕ
@@ -150,14 +179,14 @@ setAfter opening owner number given s =
 
 -- take back
 unfoldable pub backAnswer : ℕ → List ℕ → Answer
-backAnswer opening s = first ((noTicket opening s, NoTicket) ∷ (eqb (headOf s .steps) 0, NothingToTakeBack) ∷ [])
+backAnswer opening s = first ((noTicket opening s, NoTicket) ∷ (nothingToTakeBack s, NothingToTakeBack) ∷ [])
 
 unfoldable pub backAfter : ℕ → List ℕ → List ℕ
 backAfter opening s = behind (backAnswer opening s) (backed s) s
 
 -- read an account; a refused read has zeros
 unfoldable pub readAnswer : ℕ → Found → ℕ → List ℕ → Answer
-readAnswer opening owner number s = first ((noTicket opening s, NoTicket) ∷ (not (accountNamed owner number), BadNumber) ∷ [])
+readAnswer opening owner number s = first ((noTicket opening s, NoTicket) ∷ (accountBad owner number, BadNumber) ∷ [])
 
 abbrev pub noAccount : Account
 noAccount = record { opening = 0; balance = 0; turnover = 0; settings = noSettings }
