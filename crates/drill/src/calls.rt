@@ -167,21 +167,24 @@ fn byte(high: u8, low: u8) -> u8 {
 
 // The bytes that hexadecimal digits write, at most eight.
 struct Few {
-    bytes: [u8; 8],
+    bytes: [u8; BUFFER_MOST],
     count: usize,
 }
 
 fn bytes_in(s: &[u8]) -> Few {
-    let mut bytes = [0u8; 8];
+    let mut bytes = [0u8; BUFFER_MOST];
     let mut i = 0;
-    while i < 8 {
+    while i < BUFFER_MOST {
         if s.len() <= 2 * i + 1 {
             return Few { bytes, count: i };
         }
         bytes[i] = byte(peek(s, 2 * i), peek(s, 2 * i + 1));
         i += 1;
     }
-    Few { bytes, count: 8 }
+    Few {
+        bytes,
+        count: BUFFER_MOST,
+    }
 }
 
 fn slip(text: &[u8]) {

@@ -18,13 +18,13 @@ mod words;
 
 use check::same;
 use directory::Gathered;
-use layout::SEAT_LONG;
+use layout::ROOM_LONG;
 use libc::STDIN_FILENO;
 use records::directory_behind;
 use records::no_records;
 use show::dump;
 use show::put;
-use slip::SEATS;
+use show::seat_part;
 use words::Numbers;
 use words::line_end;
 use words::numbers_in;
@@ -35,7 +35,7 @@ use words::words_end;
 // How many bytes of a script are read, and how many numbers a room can be lent with: more than a room has, so that one can be too long.
 const SCRIPT_MOST: usize = 524288;
 
-const ROOM_MOST: usize = 7400;
+const ROOM_MOST: usize = ROOM_LONG + 16;
 
 // What is printed of a line: all but a sheet.
 fn head(line: &[u8]) -> &[u8] {
@@ -76,15 +76,7 @@ fn dump_seat(word: &[u8], numbers: &[u64], n: Numbers) {
     if !same(word, b"dump") {
         return;
     }
-    if SEATS <= values[0] {
-        return;
-    }
-    let from = SEAT_LONG * values[0] as usize;
-    let to = from + SEAT_LONG;
-    if numbers.len() < to {
-        return;
-    }
-    dump(&numbers[from..to]);
+    dump(seat_part(numbers, values[0]));
 }
 
 fn answer(line: &[u8], numbers: &mut [u64], long: usize, g: Gathered, n: Numbers) {

@@ -1,6 +1,7 @@
 // Every check that a message fails, each row by itself, in the order of the message's kind.
 use crate::show::put;
 use crate::show::put_number;
+use crate::show::seat_part;
 use crate::words::Numbers;
 use crate::words::part;
 use crate::words::words_end;
@@ -14,7 +15,6 @@ use layout::SEAT_LONG;
 use layout::head;
 use message::Answer;
 use message::receive;
-use slip::SEATS;
 use slip::STEPS;
 use table::order_at;
 use table::order_length;
@@ -61,18 +61,11 @@ pub fn on_rows(word: &[u8], line: &[u8], room: &[u64], g: Gathered, n: Numbers) 
     if !fits(g) {
         return;
     }
-    if SEATS <= values[0] {
-        return;
-    }
-    let from = SEAT_LONG * values[0] as usize;
-    let to = from + SEAT_LONG;
-    if room.len() < to {
-        return;
-    }
+    let s = seat_part(room, values[0]);
     let received = receive(part(line, words_end(line, 3) + 1, line.len()));
     let answer = received.answer;
     match answer {
-        Answer::Good(m) => put_rows(&room[from..to], case_of(g, values[1], values[2], m)),
+        Answer::Good(m) => put_rows(s, case_of(g, values[1], values[2], m)),
         Answer::IllFormed(_place) => {}
         Answer::BadField(_field) => {}
     }

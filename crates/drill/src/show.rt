@@ -1,15 +1,18 @@
 // What is printed: the answer of a call, and what a seat holds.
 use centre::Answer;
 use layout::ACCOUNTS;
+use layout::ROOM_LONG;
 use layout::SEAT_LONG;
 use layout::account;
 use layout::head;
 use layout::rows::Account;
 use layout::rows::Settings;
 use layout::rows::Step;
+use layout::seat_in;
 use layout::step;
 use libc::STDOUT_FILENO;
 use shape::stored::Identifier;
+use slip::SEATS;
 use slip::STEPS;
 use slip::Slip;
 
@@ -190,6 +193,17 @@ fn put_steps(s: &[u64], count: u64) {
         put_step_row(k + 1, step(s, k as usize));
         k += 1;
     }
+}
+
+// The part of a room's numbers that a seat is, empty where there is none.
+pub fn seat_part(numbers: &[u64], seat: u64) -> &[u64] {
+    if SEATS <= seat {
+        return &numbers[..0];
+    }
+    if numbers.len() < ROOM_LONG {
+        return &numbers[..0];
+    }
+    seat_in(&numbers[..ROOM_LONG], seat as usize)
 }
 
 // A seat's head, its accounts that are not all zeros, and its steps.

@@ -1,4 +1,5 @@
 // Lines, words and numbers of a text.
+use layout::PLACES;
 ghost use Prim.Native.Nat.{_≤_};
 ghost use lib.ListN.{length};
 
@@ -91,12 +92,12 @@ pub fn number(s: &[u8]) -> u64 {
     n
 }
 
-// How many numbers of a line are read: a seat and the sums of 17 records.
-const NUMBERS_MOST: usize = 35;
+// How many numbers of a line are read: a seat, and the sums of one record more than a seat has places.
+const NUMBERS_MOST: usize = 1 + 2 * (PLACES + 1);
 
 pub struct Numbers {
     pub count: usize,
-    pub values: [u64; 35],
+    pub values: [u64; NUMBERS_MOST],
 }
 
 // The numbers of a line, behind its first word.

@@ -6,29 +6,32 @@ use crate::show::put_number;
 use crate::show::put_sum;
 use directory::Gathered;
 use layout::ACCOUNTS;
+use layout::PLACES;
+use layout::ROOM_LONG;
 use layout::SEAT_LONG;
 use layout::account;
 use layout::head;
+use layout::seat_in;
 use layout::step;
 use slip::SEATS;
 use slip::STEPS;
 
 // What is seen: zeros where there is no such seat.
 pub struct Sight {
-    pub balances: [u64; 32],
+    pub balances: [u64; ACCOUNTS],
     pub steps: u64,
     pub kind: u64,
 }
 
 fn nothing() -> Sight {
     Sight {
-        balances: [0u64; 32],
+        balances: [0u64; ACCOUNTS],
         steps: 0,
         kind: 0,
     }
 }
 
-fn balances_in(s: &[u64]) -> [u64; 32] {
+fn balances_in(s: &[u64]) -> [u64; ACCOUNTS] {
     let mut balances = [0u64; ACCOUNTS];
     if s.len() != SEAT_LONG {
         return balances;
@@ -74,19 +77,17 @@ pub fn seen(room: &[u64], seat: u64) -> Sight {
     if SEATS <= seat {
         return nothing();
     }
-    let from = SEAT_LONG * seat as usize;
-    let to = from + SEAT_LONG;
-    if room.len() < to {
+    if room.len() != ROOM_LONG {
         return nothing();
     }
-    seen_in(&room[from..to])
+    seen_in(seat_in(room, seat as usize))
 }
 
 // An account by its number in a seat, with the code of the bank that owns it.
 fn put_name(g: Gathered, i: usize) {
     let records = g.records;
     let place = i / 2;
-    if 16 <= place {
+    if PLACES <= place {
         return;
     }
     let owner = records[place];
@@ -98,7 +99,7 @@ fn put_name(g: Gathered, i: usize) {
 }
 
 // The balances that a call changed.
-pub fn put_changes(g: Gathered, before: [u64; 32], after: [u64; 32]) {
+pub fn put_changes(g: Gathered, before: [u64; ACCOUNTS], after: [u64; ACCOUNTS]) {
     let mut changed = false;
     let mut i = 0;
     while i < ACCOUNTS {
@@ -118,7 +119,7 @@ pub fn put_changes(g: Gathered, before: [u64; 32], after: [u64; 32]) {
 }
 
 // The balances that are not zero.
-pub fn put_balances(g: Gathered, balances: [u64; 32]) {
+pub fn put_balances(g: Gathered, balances: [u64; ACCOUNTS]) {
     let mut i = 0;
     while i < ACCOUNTS {
         if balances[i] != 0 {

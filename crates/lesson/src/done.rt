@@ -19,6 +19,7 @@ use directory::Gathered;
 use layout::rows::Account;
 use script::Line;
 use script::Word;
+use slip::SLIP_LONG;
 use slip::Slip;
 use table::Kind;
 
@@ -256,7 +257,7 @@ fn is_moved(s: Slip) -> bool {
     (s.status == 1) & (s.kind != 3)
 }
 
-fn put_message(s: Slip, bytes: [u8; 5], g: Gathered, before: Sight, after: Sight) {
+fn put_message(s: Slip, bytes: [u8; SLIP_LONG], g: Gathered, before: Sight, after: Sight) {
     put_end(s);
     if is_moved(s) {
         put(b", carried out");
@@ -272,7 +273,7 @@ fn put_message(s: Slip, bytes: [u8; 5], g: Gathered, before: Sight, after: Sight
 }
 
 // What became of a message, read off its slip.
-fn put_submitted(bytes: [u8; 5], g: Gathered, before: Sight, after: Sight) {
+fn put_submitted(bytes: [u8; SLIP_LONG], g: Gathered, before: Sight, after: Sight) {
     let reading = read_slip(&bytes);
     match reading {
         Answer::Says(s) => put_message(s, bytes, g, before, after),
@@ -298,7 +299,7 @@ pub fn put_done(
     line: Line,
     g: Gathered,
     answer: Answer,
-    bytes: [u8; 5],
+    bytes: [u8; SLIP_LONG],
     before: Sight,
     after: Sight,
 ) {

@@ -7,8 +7,25 @@ use check::same;
 use table::Kind;
 ghost use Prim.Native.Nat.{_<_, _≤_};
 
+// How many fields each kind has, of which pacs.008 has the most.
+const PACS_008_FIELDS: usize = 14;
+
+const CAMT_050_FIELDS: usize = 6;
+
+const PACS_028_FIELDS: usize = 8;
+
+// Where the fields of a kind begin among all, and how many all are.
+const CAMT_050_FROM: usize = PACS_008_FIELDS;
+
+const PACS_028_FROM: usize = CAMT_050_FROM + CAMT_050_FIELDS;
+
+const FIELDS: usize = PACS_028_FROM + PACS_028_FIELDS;
+
+// How many bytes the row of a field has.
+const PATH_WIDE: usize = 57;
+
 // The fields of pacs.008, of camt.050 and of pacs.028, in their order, blanks behind.
-const PATHS: [[u8; 57]; 28] = [
+const PATHS: [[u8; PATH_WIDE]; FIELDS] = [
     *b"GrpHdr/MsgId                                             ",
     *b"GrpHdr/CreDtTm                                           ",
     *b"GrpHdr/InstgAgt/FinInstnId/ClrSysMmbId/MmbId             ",
@@ -39,7 +56,7 @@ const PATHS: [[u8; 57]; 28] = [
     *b"TxInf/OrgnlEndToEndId                                    ",
 ];
 
-fn path(place: usize) -> [u8; 57]
+fn path(place: usize) -> [u8; PATH_WIDE]
     requires { ⌜ place < 28 ⌝ }
 {
     PATHS[place]
@@ -74,8 +91,8 @@ fn first_of(kind: Kind) -> usize
 {
     match kind {
         Kind::Pacs008 => 0,
-        Kind::Camt050 => 14,
-        Kind::Pacs028 => 20,
+        Kind::Camt050 => CAMT_050_FROM,
+        Kind::Pacs028 => PACS_028_FROM,
     }
 }
 
@@ -83,11 +100,11 @@ fn put_path(kind: Kind, number: usize) {
     if number < 1 {
         return;
     }
-    if 14 < number {
+    if PACS_008_FIELDS < number {
         return;
     }
     let place = first_of(kind) + number - 1;
-    if place < 28 {
+    if place < FIELDS {
         let text = path(place);
         put_row(&text);
     }

@@ -28,6 +28,7 @@ use script::read_line;
 use show::part;
 use show::put;
 use show::put_line_number;
+use slip::SLIP_LONG;
 
 // How many bytes of a script are read.
 const SCRIPT_MOST: usize = 524288;
@@ -44,7 +45,7 @@ fn call(line: Line, text: &[u8], room: &mut [u64], g: Gathered) {
     let values = line.values;
     let word = line.word;
     let before = seen(room, values[0]);
-    let mut slip = [0u8; 5];
+    let mut slip = [0u8; SLIP_LONG];
     let answer = perform(room, g, line, text, &mut slip);
     let after = seen(room, values[0]);
     if is_refusal(answer) {

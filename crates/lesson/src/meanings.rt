@@ -10,8 +10,11 @@ ghost use Prim.Native.Nat.{_<_};
 // How many checks there are.
 const CHECKS: u64 = 34;
 
+// How many bytes the row of a check has.
+const MEANING_WIDE: usize = 88;
+
 // It fails because ..; one row for each check, blanks behind.
-const MEANINGS: [[u8; 88]; 34] = [
+const MEANINGS: [[u8; MEANING_WIDE]; CHECKS as usize] = [
     *b"the sender is not in the list of banks, or stands there as a provider                   ",
     *b"the sender is an indirect branch, which sends nothing by itself                         ",
     *b"the sender takes no part in instant payments                                            ",
@@ -48,7 +51,7 @@ const MEANINGS: [[u8; 88]; 34] = [
     *b"the creditor's IBAN is wrong: its check digits do not fit the rest                      ",
 ];
 
-fn row(place: usize) -> [u8; 88]
+fn row(place: usize) -> [u8; MEANING_WIDE]
     requires { ⌜ place < 34 ⌝ }
 {
     MEANINGS[place]

@@ -1,6 +1,7 @@
 // What is put on the page: texts and parts of them, numbers, sums, codes, bytes.
 use class::trimmed;
 use libc::STDOUT_FILENO;
+use slip::SLIP_LONG;
 
 // How wide the number of a line is, the hryvnias of a sum in a column, and the code of a bank.
 const NUMBER_WIDE: usize = 4;
@@ -112,7 +113,7 @@ fn put_byte(b: u8) {
 }
 
 // The five bytes of a slip.
-pub fn put_bytes(slip: [u8; 5]) {
+pub fn put_bytes(slip: [u8; SLIP_LONG]) {
     put_byte(slip[0]);
     put_byte(slip[1]);
     put_byte(slip[2]);

@@ -20,23 +20,11 @@ fits-requires c κs = search needs
 returns-2 : tie.Need-returns-2
 returns-2 c = search needs
 
-array-read-if3 : tie.Need-array-read-if3
-array-read-if3 c = search needs
+array-read-seat-part : tie.Need-array-read-seat-part
+array-read-seat-part c = search needs
 
-returns-3 : tie.Need-returns-3
-returns-3 c = search needs
-
-array-read-from : tie.Need-array-read-from
-array-read-from c = search needs
-
-mul-from : tie.Need-mul-from
-mul-from c = search needs
-
-add-to : tie.Need-add-to
-add-to c = search needs
-
-returns-4 : tie.Need-returns-4
-returns-4 c = search needs
+seat-part-requires : tie.Need-seat-part-requires
+seat-part-requires c κs = search needs
 
 words-end-requires : tie.Need-words-end-requires
 words-end-requires c κs = search needs
@@ -53,18 +41,6 @@ receive-requires c κs = search needs
 enum-known-answer : tie.Need-enum-known-answer
 enum-known-answer c = search needs
 
-mul-put-rows : tie.Need-mul-put-rows
-mul-put-rows c = search needs
-
-sub-put-rows : tie.Need-sub-put-rows
-sub-put-rows c = search needs
-
-part-put-rows-start : tie.Need-part-put-rows-start
-part-put-rows-start c = search needs
-
-part-put-rows-end : tie.Need-part-put-rows-end
-part-put-rows-end c = search needs
-
 array-read-case-of : tie.Need-array-read-case-of
 array-read-case-of c = search needs
 
@@ -73,8 +49,8 @@ array-read-case-of-2 c = search needs
 
 case-of-requires : tie.Need-case-of-requires
 case-of-requires c κs =
-    sym (c .before .before .before .before .before .before .before .before .before .before .fits2 .ensures)
-    ∙ not-false _ (c .before .before .before .before .before .before .before .before .before .if2 .left)
+    sym (c .before .before .before .before .before .before .before .before .fits2 .ensures)
+    ∙ not-false _ (c .before .before .before .before .before .before .before .if2 .left)
 
 put-rows-requires : tie.Need-put-rows-requires
 put-rows-requires c κs = search needs
@@ -85,14 +61,14 @@ enum-known-answer-2 c = search needs
 enum-known-answer-3 : tie.Need-enum-known-answer-3
 enum-known-answer-3 c = search needs
 
+returns-3 : tie.Need-returns-3
+returns-3 c = search needs
+
+returns-4 : tie.Need-returns-4
+returns-4 c = search needs
+
 returns-5 : tie.Need-returns-5
 returns-5 c = search needs
-
-returns-6 : tie.Need-returns-6
-returns-6 c = search needs
-
-returns-7 : tie.Need-returns-7
-returns-7 c = search needs
 
 pub on-rows-spec : {M : Type 1} → statement M
 on-rows-spec =
@@ -103,27 +79,19 @@ on-rows-spec =
     returns
     fits-requires
     returns-2
-    array-read-if3
-    returns-3
-    array-read-from
-    mul-from
-    add-to
-    returns-4
+    array-read-seat-part
+    seat-part-requires
     words-end-requires
     add-part
     part-requires
     receive-requires
     enum-known-answer
-    mul-put-rows
-    sub-put-rows
-    part-put-rows-start
-    part-put-rows-end
     array-read-case-of
     array-read-case-of-2
     case-of-requires
     put-rows-requires
     enum-known-answer-2
     enum-known-answer-3
-    returns-5
-    returns-6
-    returns-7)
+    returns-3
+    returns-4
+    returns-5)

@@ -1,6 +1,7 @@
--- A seat of the right length whose journal has at most 24 steps is one that a check can look at.
+-- A seat of the right length whose journal has no more steps than it can is one that a check can look at.
 use mathlib.Core.Path.{subst}
 use Prim.Native.Nat.{_≤_}
+use Rattle.slip.specs.Meaning.{steps}
 use Rattle.layout.specs.declared.rows.Head.{Head}
 use borrow.Author.Needs.{needs}
 use Rattle.drill.proofs.rows.put_rows.Statement.{statement}
@@ -24,7 +25,7 @@ put-requires c κs = search needs
 put-failing-requires : tie.Need-put-failing-requires
 put-failing-requires c κs = (
   c .before .before .before .before .before .if1 .left,
-  subst (λ (h : Head). h .steps ≤ 24) (c .before .before .before .before .head .ensures) (c .before .before .if2 .left),
+  subst (λ (h : Head). h .steps ≤ steps) (c .before .before .before .before .head .ensures) (c .before .before .if2 .left),
 )
 
 returns-3 : tie.Need-returns-3

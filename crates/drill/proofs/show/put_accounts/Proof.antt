@@ -3,15 +3,16 @@ use Prim.Native.Nat.{_≤_, _-_}
 use mathlib.Core.Path.{_≡_}
 use lib.ListN.{length}
 use native.Mathlib.Omega.{arith}
+use Rattle.layout.specs.Seat.{accounts, seatLong}
 use borrow.Author.Needs.{needs}
 use Rattle.drill.proofs.show.put_accounts.Statement.{statement}
 use Rattle.drill.proofs.show.put_accounts.Tie as tie
 
 abbrev Inv-loop : tie.InvT-loop
-Inv-loop s i₀ i = (i ≤ 32) × (length s ≡ 923)
+Inv-loop s i₀ i = (i ≤ accounts) × (length s ≡ seatLong)
 
 abbrev μ-loop : tie.MeasureT-loop
-μ-loop s i₀ i = 32 - i
+μ-loop s i₀ i = accounts - i
 
 returns : tie.Need-returns Inv-loop μ-loop
 returns c = search needs

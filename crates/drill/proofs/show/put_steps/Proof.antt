@@ -3,15 +3,17 @@ use Prim.Native.Nat.{_≤_, _-_}
 use mathlib.Core.Path.{_≡_}
 use lib.ListN.{length}
 use native.Mathlib.Omega.{arith}
+use Rattle.slip.specs.Meaning.{steps}
+use Rattle.layout.specs.Seat.{seatLong}
 use borrow.Author.Needs.{needs}
 use Rattle.drill.proofs.show.put_steps.Statement.{statement}
 use Rattle.drill.proofs.show.put_steps.Tie as tie
 
 abbrev Inv-loop : tie.InvT-loop
-Inv-loop s count k₀ k = (k ≤ 24) × (length s ≡ 923)
+Inv-loop s count k₀ k = (k ≤ steps) × (length s ≡ seatLong)
 
 abbrev μ-loop : tie.MeasureT-loop
-μ-loop s count k₀ k = 24 - k
+μ-loop s count k₀ k = steps - k
 
 returns : tie.Need-returns Inv-loop μ-loop
 returns c = search needs

@@ -3,15 +3,16 @@ use Prim.Native.Nat.{_≤_, _-_}
 use mathlib.Core.Path.{_≡_}
 use lib.ListN.{length, length-set}
 use native.Mathlib.Omega.{arith}
+use Rattle.layout.specs.Seat.{accounts, seatLong}
 use borrow.Author.Needs.{needs}
 use Rattle.lesson.proofs.accounts.balances_in.Statement.{statement}
 use Rattle.lesson.proofs.accounts.balances_in.Tie as tie
 
 abbrev Inv-loop : tie.InvT-loop
-Inv-loop s balances₀ i₀ balances i = (i ≤ 32) × (length s ≡ 923) × (length balances ≡ 32)
+Inv-loop s balances₀ i₀ balances i = (i ≤ accounts) × (length s ≡ seatLong) × (length balances ≡ accounts)
 
 abbrev μ-loop : tie.MeasureT-loop
-μ-loop s balances₀ i₀ balances i = 32 - i
+μ-loop s balances₀ i₀ balances i = accounts - i
 
 returns : tie.Need-returns Inv-loop μ-loop
 returns c = search needs

@@ -1,15 +1,16 @@
 -- The loop counts to the accounts.
 use Prim.Native.Nat.{_≤_, _-_}
 use native.Mathlib.Omega.{arith}
+use Rattle.layout.specs.Seat.{accounts}
 use borrow.Author.Needs.{needs}
 use Rattle.lesson.proofs.accounts.put_balances.Statement.{statement}
 use Rattle.lesson.proofs.accounts.put_balances.Tie as tie
 
 abbrev Inv-loop : tie.InvT-loop
-Inv-loop g balances i₀ i = i ≤ 32
+Inv-loop g balances i₀ i = i ≤ accounts
 
 abbrev μ-loop : tie.MeasureT-loop
-μ-loop g balances i₀ i = 32 - i
+μ-loop g balances i₀ i = accounts - i
 
 loop-holds : tie.Need-loop-holds Inv-loop μ-loop
 loop-holds c = search needs

@@ -1,15 +1,16 @@
 -- The loop counts to the accounts.
 use Prim.Native.Nat.{_≤_, _-_}
 use native.Mathlib.Omega.{arith}
+use Rattle.layout.specs.Seat.{accounts}
 use borrow.Author.Needs.{needs}
 use Rattle.lesson.proofs.accounts.put_changes.Statement.{statement}
 use Rattle.lesson.proofs.accounts.put_changes.Tie as tie
 
 abbrev Inv-loop : tie.InvT-loop
-Inv-loop g before after changed₀ i₀ t8 t9 changed i = i ≤ 32
+Inv-loop g before after changed₀ i₀ t8 t9 changed i = i ≤ accounts
 
 abbrev μ-loop : tie.MeasureT-loop
-μ-loop g before after changed₀ i₀ t8 t9 changed i = 32 - i
+μ-loop g before after changed₀ i₀ t8 t9 changed i = accounts - i
 
 loop-holds : tie.Need-loop-holds Inv-loop μ-loop
 loop-holds c = search needs
