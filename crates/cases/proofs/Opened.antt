@@ -27,14 +27,15 @@ use Rattle.layout.specs.Rows.{accountRow, headRow, stepRow, stepIn, accountIn, 
 use Rattle.layout.specs.Seat.{headOf, withStep, seatOf, accountOf as layoutAccountOf, withSeat, stepOf, withAccount, withHead}
 use Rattle.seat.specs.Calls.{noTicket, accountFound, sumsGood, pairGood, limitNumber, settingsOf, accountNamed}
 use Rattle.seat.specs.Fit.{seatFits, closedFits, closedSeat, openFits, openSeat, sumsOf, openAccounts, roomFits, sumsFrom, same}
-use Rattle.journal.specs.Traces.{earliest, leaves, firstIn}
+use Rattle.journal.specs.Traces.{earliest, leaves, firstIn, isThere, isKnown}
+use Rattle.journal.specs.Results.{failsBy, endsAs, resultFits, resultNow}
 use Rattle.journal.specs.Limits.{availableBelow, turnoverAbove, blockedOut, blockedInto, turnoverShut}
-use Rattle.journal.specs.Steps.{stepFits, noSet, movementFits, noMovement, carriedOut, sameSettings, isStored, settingsFit, between, referenceFits, noMessage, messageFits, setFits, isStoredUetr}
+use Rattle.journal.specs.Steps.{stepFits, noSet, movementFits, noMovement, moves, sameSettings, isStored, settingsFit, between, referenceFits, noMessage, messageFits, setFits, isStoredUetr}
 use Rattle.journal.specs.Working.{uneffect, stepped, worked, moved, possible, changed, covered, journalOf, effect, backed, unmoved, stepsFrom}
 use Rattle.judge.specs.Case.{movementOf, accountOn, creditOwner, debitOwner, caseOf}
-use Rattle.judge.specs.Rows.{isAsp, identifierRepeated, creditorNotInstant, creditorNotServed, debtorElsewhere, creditorElsewhere, instructingNotServing, debtorNotHryvnia, identifierBad, debtorAnothers, shows, creditBlocked, ibanWrong, accountAt, creditorNotHryvnia, debtorUnlisted, moneyShort, createdElsewhen, senderNotInstant, previousNotServing, originalDiffers, instructedNoBank, creditorNoProvider, uetrRepeated, askedAfter, amountForeign, originalUnknown, debitBlocked, senderNoOwner, currenciesDiffer, isSep, notFromSender, isThere, limitZero, senderIndirect, creditorAnothers, originalBad, senderUnlisted, digitsWrong, limitPassed, isOne, createdOn, differs}
+use Rattle.judge.specs.Rows.{movementIn, isAsp, identifierRepeated, creditorNotInstant, creditorNotServed, debtorElsewhere, creditorElsewhere, instructingNotServing, debtorNotHryvnia, identifierBad, debtorAnothers, shows, creditBlocked, ibanWrong, accountAt, creditorNotHryvnia, debtorUnlisted, moneyShort, createdElsewhen, senderNotInstant, previousNotServing, originalDiffers, instructedNoBank, creditorNoProvider, uetrRepeated, askedAfter, amountForeign, originalUnknown, debitBlocked, senderNoOwner, currenciesDiffer, isSep, notFromSender, limitZero, senderIndirect, creditorAnothers, originalBad, senderUnlisted, digitsWrong, limitPassed, isOne, createdOn, differs}
 use Rattle.judge.specs.Values.{orZero, agree}
-use Rattle.judge.specs.Verdict.{toldOf, fails, stepMade, verdict, firstFailing, rowsOf as judgeRowsOf, carried, outcome, answered, endOf, transferred}
+use Rattle.judge.specs.Verdict.{toldOf, fails, stepMade, judgedStep, verdict, firstFailing, rowsOf as judgeRowsOf, carried, outcome, answered, endOf, transferred}
 use Rattle.centre.specs.Answers.{slipValues, isDone, behind}
 use Rattle.centre.specs.Calls.{backTold, closeTold, setIn, ticketBad, openAfter, readTold as centreReadTold, openTold, setAfter, backAfter, noSeat, setTold, closeAfter}
 use Rattle.centre.specs.Slips.{writeTold, readTold as centreSlipsReadTold}
@@ -80,11 +81,11 @@ unfolding put part accountRow headRow stepRow stepIn accountIn headIn headOf wit
 layout-opened = tt
 
 unfoldable pub seat-opened : Unit {0}
-unfolding noTicket accountFound sumsGood pairGood limitNumber settingsOf accountNamed seatFits closedFits closedSeat openFits openSeat sumsOf openAccounts roomFits sumsFrom same earliest leaves firstIn availableBelow turnoverAbove blockedOut blockedInto turnoverShut stepFits noSet movementFits noMovement carriedOut sameSettings isStored settingsFit between referenceFits noMessage messageFits setFits isStoredUetr uneffect stepped worked moved possible changed covered journalOf effect backed unmoved stepsFrom
+unfolding noTicket accountFound sumsGood pairGood limitNumber settingsOf accountNamed seatFits closedFits closedSeat openFits openSeat sumsOf openAccounts roomFits sumsFrom same earliest leaves firstIn isThere isKnown failsBy endsAs resultFits resultNow availableBelow turnoverAbove blockedOut blockedInto turnoverShut stepFits noSet movementFits noMovement moves sameSettings isStored settingsFit between referenceFits noMessage messageFits setFits isStoredUetr uneffect stepped worked moved possible changed covered journalOf effect backed unmoved stepsFrom
 seat-opened = tt
 
 unfoldable pub judge-opened : Unit {0}
-unfolding movementOf accountOn creditOwner debitOwner caseOf isAsp identifierRepeated creditorNotInstant creditorNotServed debtorElsewhere creditorElsewhere instructingNotServing debtorNotHryvnia identifierBad debtorAnothers shows creditBlocked ibanWrong accountAt creditorNotHryvnia debtorUnlisted moneyShort createdElsewhen senderNotInstant previousNotServing originalDiffers instructedNoBank creditorNoProvider uetrRepeated askedAfter amountForeign originalUnknown debitBlocked senderNoOwner currenciesDiffer isSep notFromSender isThere limitZero senderIndirect creditorAnothers originalBad senderUnlisted digitsWrong limitPassed isOne createdOn differs orZero agree toldOf fails stepMade verdict firstFailing judgeRowsOf carried outcome answered endOf transferred
+unfolding movementIn movementOf accountOn creditOwner debitOwner caseOf isAsp identifierRepeated creditorNotInstant creditorNotServed debtorElsewhere creditorElsewhere instructingNotServing debtorNotHryvnia identifierBad debtorAnothers shows creditBlocked ibanWrong accountAt creditorNotHryvnia debtorUnlisted moneyShort createdElsewhen senderNotInstant previousNotServing originalDiffers instructedNoBank creditorNoProvider uetrRepeated askedAfter amountForeign originalUnknown debitBlocked senderNoOwner currenciesDiffer isSep notFromSender limitZero senderIndirect creditorAnothers originalBad senderUnlisted digitsWrong limitPassed isOne createdOn differs orZero agree toldOf fails stepMade judgedStep verdict firstFailing judgeRowsOf carried outcome answered endOf transferred
 judge-opened = tt
 
 unfoldable pub centre-opened : Unit {0}

@@ -4,7 +4,7 @@
 use mathlib.Core.Path.{_≡_, refl, sym, ap, subst, _∙_}
 use mathlib.Core.Bool.{true, false, _||_, false≢true}
 use mathlib.Core.List.{List, _++_}
-use Prim.Native.Nat.{ℕ, suc, _+_, _≤_, _<_}
+use Prim.Native.Nat.{ℕ, suc, _+_, _-_, _≤_, _<_}
 use native.Mathlib.Omega.{arith}
 use native.Mathlib.Numerals.{add-one}
 use lib.Dec.{eqb}
@@ -12,12 +12,13 @@ use lib.ListN.{length, drop}
 use borrow.Author.Tests.{le-leb, eq-eqb}
 use Rattle.shape.proofs.Tests.{and-left, or-left, or-right}
 use Rattle.slip.specs.declared.Slip.{Slip}
-use Rattle.slip.specs.Meaning.{seats, openings, steps, says, isSlip}
+use Rattle.slip.specs.Meaning.{seats, openings, steps, slipLong, says, isSlip}
 use Rattle.slip.specs.Image.{image}
 use Rattle.slip.specs.Answers.{canWrite, writeAfter}
 use Rattle.layout.specs.declared.rows.Head.{Head}
 use Rattle.layout.specs.declared.rows.Step.{Step}
 use Rattle.layout.specs.Seat.{seatLong, headOf}
+use Rattle.journal.specs.declared.results.Outcome.{Outcome}
 use Rattle.journal.specs.Low.{Low}
 use Rattle.journal.specs.Steps.{stepFits}
 use Rattle.journal.specs.Working.{covered, possible, stepped}
@@ -28,10 +29,10 @@ use Rattle.seat.proofs.Forward.{open-fits, fit-low}
 use Rattle.seat.proofs.Kept.{fit-long, fit-open}
 use Rattle.seat.proofs.Answered.{ticket-good}
 use Rattle.judge.specs.declared.case.Case.{Case}
-use Rattle.judge.specs.declared.outcome.Outcome.{Outcome}
+use Rattle.judge.specs.declared.case.Movement.{Movement}
 use Rattle.judge.specs.Case.{Arises}
-use Rattle.judge.specs.Rows.{askedAfter}
-use Rattle.judge.specs.Verdict.{verdict, endOf, outcome, stepMade}
+use Rattle.judge.specs.Rows.{askedAfter, movementIn}
+use Rattle.judge.specs.Verdict.{verdict, toldOf, endOf, outcome, stepMade, judgedStep}
 use Rattle.judge.proofs.Possible.{judged-says, judged-possible}
 use Rattle.centre.specs.declared.Ticket.{Ticket}
 use Rattle.centre.specs.declared.Answer.the-variants.{Done, NotTaken}
@@ -39,7 +40,7 @@ use Rattle.centre.specs.Answers.{Told, told, refusedWith, isDone, behind
 use Rattle.centre.specs.Submit.{notTaken, slipOf, judgedTold, judgedAfter, judgedSlip}
 
 -- what is left in the buffer where the slip can be written
-pub slip-written : (x : Slip) (slip : List ℕ) → canWrite x slip ≡ true → writeAfter x slip ≡ image x ++ drop 5 slip
+pub slip-written : (x : Slip) (slip : List ℕ) → canWrite x slip ≡ true → writeAfter x slip ≡ image x ++ drop slipLong slip
 unfolding writeAfter
 slip-written x slip e = rw e
 
@@ -106,20 +107,20 @@ not-taken ticket c s slip check v e =
     let over : isDone (judgedTold c s) ≡ false = ap isDone refused ∙ done-refused (verdict c s) in (
       told-not check ∙ ap (λ (n : ℕ). refusedWith 12 n) v ∙ sym refused,
       (
-        behind-came (judgedTold c s) (stepped (stepMade c (outcome c s)) s) s over,
-        behind-came (judgedTold c s) (image (slipOf ticket (suc (headOf s .steps)) (stepMade c (outcome c s))) ++ drop 5 slip) slip over,
+        behind-came (judgedTold c s) (stepped (judgedStep c s) s) s over,
+        behind-came (judgedTold c s) (image (slipOf ticket (suc (headOf s .steps)) (judgedStep c s)) ++ drop slipLong slip) slip over,
       ),
     )
 
 -- the six values are those of a slip, and the buffer has room
-slip-good : (x : Slip) (slip : List ℕ) → 5 ≤ length slip → says (x .kind) (x .status) (x .check) ≡ true → x .seat ≤ 7
+slip-good : (x : Slip) (slip : List ℕ) → slipLong ≤ length slip → says (x .kind) (x .status) (x .check) ≡ true → x .seat ≤ seats - 1
     → 1 ≤ x .opening → x .opening ≤ openings → 1 ≤ x .step → x .step ≤ steps → canWrite x slip ≡ true
 unfolding canWrite isSlip
 slip-good x slip room saying seat least most first last =
     rw (
-      le-leb 5 (length slip) room,
+      le-leb slipLong (length slip) room,
       saying,
-      le-leb (x .seat) 7 seat,
+      le-leb (x .seat) (seats - 1) seat,
       le-leb 1 (x .opening) least,
       le-leb (x .opening) openings most,
       le-leb 1 (x .step) first,
@@ -127,8 +128,8 @@ slip-good x slip room saying seat least most first last =
     )
 
 -- the slip of a step
-step-slip : (ticket : Ticket) (number : ℕ) (x : Step) (slip : List ℕ) → 5 ≤ length slip → says (x .kind) (x .status) (x .check) ≡ true
-    → ticket .seat ≤ 7 → 1 ≤ ticket .opening → ticket .opening ≤ openings → 1 ≤ number → number ≤ steps
+step-slip : (ticket : Ticket) (number : ℕ) (x : Step) (slip : List ℕ) → slipLong ≤ length slip → says (x .kind) (x .status) (x .check) ≡ true
+    → ticket .seat ≤ seats - 1 → 1 ≤ ticket .opening → ticket .opening ≤ openings → 1 ≤ number → number ≤ steps
     → canWrite (slipOf ticket number x) slip ≡ true
 unfolding slipOf
 step-slip ticket number x slip room saying seat least most first last =
@@ -136,23 +137,24 @@ step-slip ticket number x slip room saying seat least most first last =
 
 -- taken: the step is the one of the outcome
 module _ (ticket : Ticket) (c : Case) (s slip : List ℕ) (check : ℕ) (v : check ≡ verdict c s) (n : (eqb check 1 || eqb check 2) ≡ false)
-    (o : Outcome) (ends : o ≡ endOf (c .message .kind) check (askedAfter c s)) (x : Step) (makes : x ≡ stepMade c o)
-    (h : Head) (heads : h ≡ headOf s) where
+    (m : Movement) (moving : m ≡ movementIn c s) (o : Outcome) (ends : o ≡ endOf (c .message .kind) check (toldOf (askedAfter c s) s))
+    (x : Step) (makes : x ≡ stepMade c m o) (h : Head) (heads : h ≡ headOf s) where
   passes : notTaken (verdict c s) ≡ false
   unfolding notTaken
   passes = subst (λ (k : ℕ). notTaken k ≡ false) v n
 
   ending : o ≡ outcome c s
   unfolding outcome
-  ending = ends ∙ ap (λ (k : ℕ). endOf (c .message .kind) k (askedAfter c s)) v
+  ending = ends ∙ ap (λ (k : ℕ). endOf (c .message .kind) k (toldOf (askedAfter c s) s)) v
 
-  making : x ≡ stepMade c (outcome c s)
-  making = makes ∙ ap (λ (end : Outcome). stepMade c end) ending
+  making : x ≡ judgedStep c s
+  unfolding judgedStep
+  making = makes ∙ ap (λ (move : Movement). stepMade c move o) moving ∙ ap (stepMade c (movementIn c s)) ending
 
   counting : h .steps + 1 ≡ suc (headOf s .steps)
   counting = add-one (h .steps) ∙ ap (λ (k : Head). suc (k .steps)) heads
 
-  pub taken : (after written : List ℕ) → after ≡ stepped x s → written ≡ image (slipOf ticket (h .steps + 1) x) ++ drop 5 slip
+  pub taken : (after written : List ℕ) → after ≡ stepped x s → written ≡ image (slipOf ticket (h .steps + 1) x) ++ drop slipLong slip
       → (told Done ≡ judgedTold c s) × ((after ≡ judgedAfter c s) × (written ≡ judgedSlip ticket c s slip))
   unfolding judgedAfter judgedSlip
   taken after written steps-on writes =
@@ -160,10 +162,10 @@ module _ (ticket : Ticket) (c : Case) (s slip : List ℕ) (check : ℕ) (v : che
       let over : isDone (judgedTold c s) ≡ true = ap isDone finished ∙ done-done in (
         sym finished,
         (
-          steps-on ∙ ap (λ (y : Step). stepped y s) making ∙ behind-made (judgedTold c s) (stepped (stepMade c (outcome c s)) s) s over,
-          writes ∙ ap (λ (y : Step). image (slipOf ticket (h .steps + 1) y) ++ drop 5 slip) making
-              ∙ ap (λ (k : ℕ). image (slipOf ticket k (stepMade c (outcome c s))) ++ drop 5 slip) counting
-              ∙ behind-made (judgedTold c s) (image (slipOf ticket (suc (headOf s .steps)) (stepMade c (outcome c s))) ++ drop 5 slip) slip over,
+          steps-on ∙ ap (λ (y : Step). stepped y s) making ∙ behind-made (judgedTold c s) (stepped (judgedStep c s) s) s over,
+          writes ∙ ap (λ (y : Step). image (slipOf ticket (h .steps + 1) y) ++ drop slipLong slip) making
+              ∙ ap (λ (k : ℕ). image (slipOf ticket k (judgedStep c s)) ++ drop slipLong slip) counting
+              ∙ behind-made (judgedTold c s) (image (slipOf ticket (suc (headOf s .steps)) (judgedStep c s)) ++ drop slipLong slip) slip over,
         ),
       )
 
@@ -172,17 +174,17 @@ module _ (ticket : Ticket) (c : Case) (s slip : List ℕ) (check : ℕ) (v : che
     pub append-asks : Low s × (stepFits x ≡ true) × (headOf s .steps < steps)
     append-asks =
         let fit : openFits s ≡ true = seat-open ticket s f t in
-        let can : possible (stepMade c (outcome c s)) s ≡ true =
+        let can : possible (judgedStep c s) s ≡ true =
         judged-possible c s a (fit-long s f) fit (not-one (verdict c s) passes) (not-two (verdict c s) passes) in (
           fit-low s (fit-long s f) fit,
-          subst (λ (y : Step). stepFits y ≡ true) (sym making) (possible-fits (stepMade c (outcome c s)) s can),
+          subst (λ (y : Step). stepFits y ≡ true) (sym making) (possible-fits (judgedStep c s) s can),
           few,
         )
 
     pub count-low : h .steps < steps
     count-low = subst (λ (k : Head). k .steps < steps) (sym heads) few
 
-    pub slip-asks : ticket .seat < seats → 5 ≤ length slip → canWrite (slipOf ticket (h .steps + 1) x) slip ≡ true
+    pub slip-asks : ticket .seat < seats → slipLong ≤ length slip → canWrite (slipOf ticket (h .steps + 1) x) slip ≡ true
     slip-asks seat room =
         let low : h .steps < steps = count-low in
         let saying =

@@ -11,7 +11,7 @@ use lib.ListN.{length, getD, drop, replicate}
 use borrow.Author.Tests.{eqb-true, eqb-false, leb-true, not-false}
 use Rattle.shape.proofs.Tests.{and-left, and-right}
 use Rattle.slip.specs.declared.Slip.{Slip}
-use Rattle.slip.specs.Meaning.{openings, steps, isSlip}
+use Rattle.slip.specs.Meaning.{slipLong, openings, steps, isSlip}
 use Rattle.slip.specs.Image.{slipOf}
 use Rattle.slip.specs.Answers.{canWrite, holdsSlip}
 use Rattle.directory.specs.declared.Participant.{Participant}
@@ -206,22 +206,22 @@ module _ (dir : List Participant) (ticket : Ticket) (owner number : ℕ) (room :
 
 -- write a slip
 module _ (slip : Slip) (buffer : List ℕ) where
-  write-passed : told Done ≡ slips.writeTold slip buffer → (leb 5 (length buffer) && isSlip slip) ≡ true
+  write-passed : told Done ≡ slips.writeTold slip buffer → (leb slipLong (length buffer) && isSlip slip) ≡ true
   unfolding told slips.writeTold canWrite
   write-passed e = not-false (canWrite slip buffer) (all-passed ((not (canWrite slip buffer), refused 11) ∷ []) (done []) (told Done) refl e .0 .0)
 
-  pub writes-into-four-bytes : length buffer < 5 → told Done ≡ slips.writeTold slip buffer → ⊥
+  pub writes-into-four-bytes : length buffer < slipLong → told Done ≡ slips.writeTold slip buffer → ⊥
   writes-into-four-bytes h e =
-      let long : 5 ≤ length buffer = leb-true 5 (length buffer) (and-left (leb 5 (length buffer)) (isSlip slip) (write-passed e)) in
+      let long : slipLong ≤ length buffer = leb-true slipLong (length buffer) (and-left (leb slipLong (length buffer)) (isSlip slip) (write-passed e)) in
       omega arith
 
   pub writes-what-no-slip-says : isSlip slip ≡ false → told Done ≡ slips.writeTold slip buffer → ⊥
-  writes-what-no-slip-says h e = false≢true (sym h ∙ and-right (leb 5 (length buffer)) (isSlip slip) (write-passed e))
+  writes-what-no-slip-says h e = false≢true (sym h ∙ and-right (leb slipLong (length buffer)) (isSlip slip) (write-passed e))
 
 -- read a slip
 module _ (bytes : List ℕ) (slip : Slip) where
   slip-passed : told (Says slip) ≡ slips.readTold bytes
-      → ((eqb (length bytes) 5 && isSlip (slipOf bytes)) ≡ true) × (told (Says slip) ≡ done (slipValues (slipOf bytes)))
+      → ((eqb (length bytes) slipLong && isSlip (slipOf bytes)) ≡ true) × (told (Says slip) ≡ done (slipValues (slipOf bytes)))
   unfolding told slips.readTold holdsSlip
   slip-passed e =
       let tests = all-passed ((not (holdsSlip bytes), refused 11) ∷ []) (done (slipValues (slipOf bytes))) (told (Says slip)) refl e in
@@ -229,7 +229,7 @@ module _ (bytes : List ℕ) (slip : Slip) where
 
   pub reads-six-bytes : length bytes ≡ 6 → told (Says slip) ≡ slips.readTold bytes → ⊥
   reads-six-bytes h e =
-      let five : length bytes ≡ 5 = eqb-true (length bytes) 5 (and-left (eqb (length bytes) 5) (isSlip (slipOf bytes)) (slip-passed e .0)) in
+      let five : length bytes ≡ slipLong = eqb-true (length bytes) slipLong (and-left (eqb (length bytes) slipLong) (isSlip (slipOf bytes)) (slip-passed e .0)) in
       omega arith
 
   pub reads-other-values : (slip ≡ slipOf bytes → ⊥) → told (Says slip) ≡ slips.readTold bytes → ⊥

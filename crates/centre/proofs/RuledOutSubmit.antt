@@ -14,7 +14,7 @@ use Rattle.shape.specs.Dates.{isDate}
 use Rattle.shape.proofs.Bits.{Small, cut-joined, joined-cut, joined-small}
 use Rattle.shape.proofs.Tests.{and-left, and-right}
 use Rattle.slip.specs.declared.Slip.{Slip}
-use Rattle.slip.specs.Meaning.{steps, isSlip}
+use Rattle.slip.specs.Meaning.{slipLong, steps, isSlip}
 use Rattle.slip.specs.Image.{fieldsOf, byteWidths, values, slipNumber, image, slipIn, slipOf as slipRead}
 use Rattle.slip.specs.Answers.{canWrite}
 use Rattle.slip.proofs.Small.{slip-small}
@@ -26,13 +26,14 @@ use Rattle.directory.specs.declared.Participant.{Participant}
 use Rattle.directory.specs.Directory.{codeMost, isFit}
 use Rattle.layout.specs.declared.rows.Step.{Step}
 use Rattle.layout.specs.Seat.{headOf, seatOf, withSeat}
+use Rattle.journal.specs.declared.results.Outcome.{Outcome}
 use Rattle.journal.specs.Working.{stepped}
 use Rattle.seat.specs.Fit.{roomFits}
 use Rattle.judge.specs.declared.case.Case.{Case}
-use Rattle.judge.specs.declared.outcome.Outcome.{Outcome}
 use Rattle.judge.specs.Case.{Arises, caseOf}
-use Rattle.judge.specs.Rows.{askedAfter}
-use Rattle.judge.specs.Verdict.{verdict, endOf, outcome, stepMade}
+use Rattle.judge.specs.declared.case.Movement.{Movement}
+use Rattle.judge.specs.Rows.{askedAfter, movementIn}
+use Rattle.judge.specs.Verdict.{verdict, toldOf, endOf, outcome, stepMade, judgedStep}
 use Rattle.centre.specs.declared.Answer.the-variants.{Done, NotTaken}
 use Rattle.centre.specs.declared.Ticket.{Ticket}
 use Rattle.centre.specs.Answers.{Told, told, done, refused, refusedWith, isDone}
@@ -60,7 +61,7 @@ unfolding slipRead image
 bytes-read f small = ap slipIn (joined-cut byteWidths (slipNumber f) (number-low f small)) ∙ number-read f small
 
 -- the bytes of a slip are the first five of the buffer
-image-first : (f : Slip) (rest : List ℕ) → take 5 (image f ++ rest) ≡ image f
+image-first : (f : Slip) (rest : List ℕ) → take slipLong (image f ++ rest) ≡ image f
 unfolding image
 image-first f rest = refl
 
@@ -81,7 +82,7 @@ same-number ticket m n x rest good low e =
     let f : Slip = slipOf ticket n x in
     let g : Slip = slipOf ticket m x in
     let small : Small (fieldsOf g) = slip-small g good in
-    let same : image f ≡ image g = sym (image-first f rest) ∙ ap (λ (t : List ℕ). take 5 t) e ∙ image-first g rest in
+    let same : image f ≡ image g = sym (image-first f rest) ∙ ap (λ (t : List ℕ). take slipLong t) e ∙ image-first g rest in
     let whole : f ≡ g = sym (bytes-read f (other-small ticket m n x small low)) ∙ ap slipRead same ∙ bytes-read g small in
     sym (step-number ticket n x) ∙ ap (λ (z : Slip). z .step) whole ∙ step-number ticket m x
 
@@ -105,7 +106,7 @@ module _ (dir : List Participant) (ticket : Ticket) (sender today : ℕ) (sheet 
       ∷ (not (isFit dir), refused 2)
       ∷ (ticketBad ticket room, refused 3)
       ∷ (not (leb sender codeMost && isDate today), refused 6)
-      ∷ (ltb (length slip) 5, refused 11)
+      ∷ (ltb (length slip) slipLong, refused 11)
       ∷ (eqb (headOf seatHere .steps) steps, refused 9)
       ∷ (eqb (numberOf answerHere .0) 7, refusedWith 7 (numberOf answerHere .1))
       ∷ (eqb (numberOf answerHere .0) 8, refusedWith 8 (numberOf answerHere .1))
@@ -148,11 +149,11 @@ module _ (dir : List Participant) (ticket : Ticket) (sender today : ℕ) (sheet 
         (same ∙ submit-made)
 
     slip-made : submitSlip dir ticket sender today sheet slip room
-        ≡ image (slipOf ticket (suc (headOf seatHere .steps)) (stepOn (caseOf dir sender today) answerHere seatHere)) ++ drop 5 slip
+        ≡ image (slipOf ticket (suc (headOf seatHere .steps)) (stepOn (caseOf dir sender today) answerHere seatHere)) ++ drop slipLong slip
     unfolding submitTold submitSlip
     slip-made =
         behind-done (submitTold dir ticket sender today sheet slip room)
-        (image (slipOf ticket (suc (headOf seatHere .steps)) (stepOn (caseOf dir sender today) answerHere seatHere)) ++ drop 5 slip) slip over
+        (image (slipOf ticket (suc (headOf seatHere .steps)) (stepOn (caseOf dir sender today) answerHere seatHere)) ++ drop slipLong slip) slip over
 
     all-right : Passed (isFit dir) ticket sender today slip room
     all-right = record {
@@ -160,7 +161,7 @@ module _ (dir : List Participant) (ticket : Ticket) (sender today : ℕ) (sheet 
       directory-fit = not-false (isFit dir) (tests .1 .0);
       ticket-right = tests .1 .1 .0;
       numbers-right = not-false (leb sender codeMost && isDate today) (tests .1 .1 .1 .0);
-      slip-long = ltb-false (length slip) 5 (tests .1 .1 .1 .1 .0);
+      slip-long = ltb-false (length slip) slipLong (tests .1 .1 .1 .1 .0);
       steps-left = eqb-false (headOf seatHere .steps) steps (tests .1 .1 .1 .1 .1 .0);
     }
 
@@ -184,27 +185,28 @@ module _ (dir : List Participant) (ticket : Ticket) (sender today : ℕ) (sheet 
         looked = refl;
       }
 
-      can-write : canWrite (slipOf ticket (headOf seatHere .steps + 1) (stepMade caseHere (outcome caseHere seatHere))) slip ≡ true
-      unfolding outcome
+      can-write : canWrite (slipOf ticket (headOf seatHere .steps + 1) (judgedStep caseHere seatHere)) slip ≡ true
+      unfolding outcome judgedStep
       can-write =
           let c : Case = caseHere in
           let s : List ℕ = seatHere in
           let can = can-judge all-right (caseOf dir sender today) answerHere m f arises c refl s refl in
-          let o : Outcome = endOf (c .message .kind) (verdict c s) (askedAfter c s) in
-          slip-asks ticket c s slip (verdict c s) refl not-refused o refl (stepMade c o) refl (headOf s) refl (can .0) (can .1) (can .3) (can .5)
-          (can .2) (can .4)
+          let m : Movement = movementIn c s in
+          let o : Outcome = endOf (c .message .kind) (verdict c s) (toldOf (askedAfter c s) s) in
+          slip-asks ticket c s slip (verdict c s) refl not-refused m refl o refl (stepMade c m o) refl (headOf s) refl
+          (can .0) (can .1) (can .3) (can .5) (can .2) (can .4)
 
       right-slip : isSlip (slipOf ticket (suc (headOf seatHere .steps)) (stepOn (caseOf dir sender today) answerHere seatHere)) ≡ true
       unfolding canWrite stepOn
       right-slip =
           rw (f, ← add-one (headOf seatHere .steps))
-          (and-right (leb 5 (length slip)) (isSlip (slipOf ticket (headOf seatHere .steps + 1) (stepMade caseHere (outcome caseHere seatHere)))) can-write)
+          (and-right (leb slipLong (length slip)) (isSlip (slipOf ticket (headOf seatHere .steps + 1) (judgedStep caseHere seatHere))) can-write)
 
     pub invented-step-number : (n : ℕ) → (n ≡ suc (headOf seatHere .steps) → ⊥)
-        → image (slipOf ticket n (stepOn (caseOf dir sender today) answerHere seatHere)) ++ drop 5 slip ≡ submitSlip dir ticket sender today sheet slip room
+        → image (slipOf ticket n (stepOn (caseOf dir sender today) answerHere seatHere)) ++ drop slipLong slip ≡ submitSlip dir ticket sender today sheet slip room
         → n ≤ steps → ⊥
     invented-step-number n h written low =
         good-message answerHere (tests .1 .1 .1 .1 .1 .1 .0) (tests .1 .1 .1 .1 .1 .1 .1 .0)
         (λ (m : Message) (f : answerHere ≡ Good m).
-        h (same-number ticket (suc (headOf seatHere .steps)) n (stepOn (caseOf dir sender today) answerHere seatHere) (drop 5 slip) (right-slip m f) low
+        h (same-number ticket (suc (headOf seatHere .steps)) n (stepOn (caseOf dir sender today) answerHere seatHere) (drop slipLong slip) (right-slip m f) low
         (written ∙ slip-made)))

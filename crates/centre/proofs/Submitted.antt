@@ -11,7 +11,7 @@ use lib.Dec.{leb, ltb, eqb}
 use lib.ListN.{length, drop}
 use borrow.Author.Tests.{eq-eqb, ne-eqb, lt-ltb, le-ltb, leb-false, lt-leb, le-leb, not-true, not-false}
 use Rattle.shape.specs.Dates.{isDate}
-use Rattle.slip.specs.Meaning.{seats, steps}
+use Rattle.slip.specs.Meaning.{slipLong, seats, steps}
 use Rattle.slip.specs.Image.{image}
 use Rattle.message.specs.declared.Message.{Message}
 use Rattle.message.specs.declared.Answer.{Answer as Received}
@@ -28,7 +28,7 @@ use Rattle.seat.proofs.Kept.{fit-open}
 use Rattle.seat.proofs.Rooms.{room-long, room-seat}
 use Rattle.judge.specs.declared.case.Case.{Case}
 use Rattle.judge.specs.Case.{Arises}
-use Rattle.judge.specs.Verdict.{outcome, stepMade}
+use Rattle.judge.specs.Verdict.{judgedStep}
 use Rattle.judge.proofs.Verdicts.{or-neither}
 use Rattle.centre.specs.declared.Answer.{Answer}
 use Rattle.centre.specs.declared.Answer.the-variants.{RoomUnfit, DirectoryUnfit, NoTicket, BadNumber, IllFormed, BadField, JournalFull, NoSlip}
@@ -119,16 +119,16 @@ module _ (fit : Bool) (cases : Message → Case) (ticket : Ticket) (sender today
         bad-number f = stays BadNumber refl (rw (a, b, t, f))
 
         module _ (n : (leb sender codeMost && isDate today) ≡ true) where
-          pub no-slip : length slip < 5 → Submits NoSlip room slip
+          pub no-slip : length slip < slipLong → Submits NoSlip room slip
           unfolding told isDone
-          no-slip f = stays NoSlip refl (rw (a, b, t, n, lt-ltb (length slip) 5 f))
+          no-slip f = stays NoSlip refl (rw (a, b, t, n, lt-ltb (length slip) slipLong f))
 
-          module _ (l : 5 ≤ length slip) where
+          module _ (l : slipLong ≤ length slip) where
             pub journal-full : headOf (seatOf room (ticket .seat)) .steps ≡ steps → Submits JournalFull room slip
             unfolding told isDone
             journal-full f =
                 stays JournalFull refl
-                (rw (a, b, t, n, le-ltb (length slip) 5 l, eq-eqb (headOf (seatOf room (ticket .seat)) .steps) steps f))
+                (rw (a, b, t, n, le-ltb (length slip) slipLong l, eq-eqb (headOf (seatOf room (ticket .seat)) .steps) steps f))
 
 -- the first six refusals are passed
 pub record Passed (fit : Bool) (ticket : Ticket) (sender today : ℕ) (slip room : List ℕ) : Type 0 where
@@ -136,13 +136,13 @@ pub record Passed (fit : Bool) (ticket : Ticket) (sender today : ℕ) (slip room
   pub directory-fit : fit ≡ true
   pub ticket-right : ticketBad ticket room ≡ false
   pub numbers-right : (leb sender codeMost && isDate today) ≡ true
-  pub slip-long : 5 ≤ length slip
+  pub slip-long : slipLong ≤ length slip
   pub steps-left : headOf (seatOf room (ticket .seat)) .steps ≡ steps → ⊥
 
 module _ {fit : Bool} {ticket : Ticket} {sender today : ℕ} {slip room : List ℕ}
     (p : Passed fit ticket sender today slip room) (cases : Message → Case) (received : Received) where
-  slip-enough : ltb (length slip) 5 ≡ false
-  slip-enough = le-ltb (length slip) 5 (p .slip-long)
+  slip-enough : ltb (length slip) slipLong ≡ false
+  slip-enough = le-ltb (length slip) slipLong (p .slip-long)
 
   steps-apart : eqb (headOf (seatOf room (ticket .seat)) .steps) steps ≡ false
   steps-apart = ne-eqb (headOf (seatOf room (ticket .seat)) .steps) steps (p .steps-left)
@@ -172,16 +172,16 @@ module _ {fit : Bool} {ticket : Ticket} {sender today : ℕ} {slip room : List �
     judged-after : withSeat room (ticket .seat) (judgedAfter (cases m) here) ≡ submitLeft fit cases ticket sender today received slip room
     unfolding judgedAfter stepOn
     judged-after =
-        behind-seat room (ticket .seat) (stepped (stepMade (cases m) (outcome (cases m) here)) here) here (judgedTold (cases m) here)
+        behind-seat room (ticket .seat) (stepped (judgedStep (cases m) here) here) here (judgedTold (cases m) here)
         (seat-same room (ticket .seat) (room-long room (p .room-fit)) (ticket-seat ticket room (p .ticket-right)))
-        ∙ ap (λ (t : Told). behind t (withSeat room (ticket .seat) (stepped (stepMade (cases m) (outcome (cases m) here)) here)) room) judged-told
+        ∙ ap (λ (t : Told). behind t (withSeat room (ticket .seat) (stepped (judgedStep (cases m) here) here)) room) judged-told
         ∙ ap (λ (a : Received). behind (submitBy fit cases ticket sender today received slip room) (withSeat room (ticket .seat) (stepped (stepOn cases a here) here)) room) (sym f)
 
     judged-slip : judgedSlip ticket (cases m) here slip ≡ submitWritten fit cases ticket sender today received slip room
     unfolding judgedSlip stepOn
     judged-slip =
-        ap (λ (t : Told). behind t (image (slipOf ticket (suc (headOf here .steps)) (stepMade (cases m) (outcome (cases m) here))) ++ drop 5 slip) slip) judged-told
-        ∙ ap (λ (a : Received). behind (submitBy fit cases ticket sender today received slip room) (image (slipOf ticket (suc (headOf here .steps)) (stepOn cases a here)) ++ drop 5 slip) slip) (sym f)
+        ap (λ (t : Told). behind t (image (slipOf ticket (suc (headOf here .steps)) (judgedStep (cases m) here)) ++ drop slipLong slip) slip) judged-told
+        ∙ ap (λ (a : Received). behind (submitBy fit cases ticket sender today received slip room) (image (slipOf ticket (suc (headOf here .steps)) (stepOn cases a here)) ++ drop slipLong slip) slip) (sym f)
 
     seat-fits : seatFits here ≡ true
     seat-fits = room-seat room (p .room-fit) (ticket .seat) (ticket-seat ticket room (p .ticket-right))
@@ -198,7 +198,7 @@ module _ {fit : Bool} {ticket : Ticket} {sender today : ℕ} {slip room : List �
         × (noTicket (ticket .opening) here ≡ false)
         × (ticket .seat < seats)
         × (headOf here .steps < steps)
-        × (5 ≤ length slip)
+        × (slipLong ≤ length slip)
         × Arises (cases m)
     seat-judged arises = (seat-fits, ticket-fits ticket room (p .ticket-right), ticket-seat ticket room (p .ticket-right), steps-few, p .slip-long, arises)
 
@@ -207,7 +207,7 @@ module _ {fit : Bool} {ticket : Ticket} {sender today : ℕ} {slip room : List �
         × (noTicket (ticket .opening) s ≡ false)
         × (ticket .seat < seats)
         × (headOf s .steps < steps)
-        × (5 ≤ length slip)
+        × (slipLong ≤ length slip)
         × Arises c
     can-judge arises c e s q = rw (e, q) (seat-judged arises)
 

@@ -26,7 +26,7 @@ use Rattle.seat.specs.Calls.{journalFull}
 use Rattle.judge.specs.declared.case.Case.{Case}
 use Rattle.judge.specs.declared.case.Looked.{Looked}
 use Rattle.judge.specs.Case.{lookedUp, caseOf}
-use Rattle.judge.specs.Verdict.{verdict, outcome, stepMade}
+use Rattle.judge.specs.Verdict.{verdict, judgedStep}
 use Rattle.centre.specs.declared.Ticket.{Ticket}
 use Rattle.centre.specs.Answers.{Told, done, refused, refusedWith, first, behind}
 use Rattle.centre.specs.Calls.{ticketBad}
@@ -54,7 +54,7 @@ fieldBad received = eqb (numberOf received .0) 8
 
 -- the step that it is
 unfoldable pub stepOn : (Message → Case) → Answer → List ℕ → Step
-stepOn cases (Good m) s = stepMade (cases m) (outcome (cases m) s)
+stepOn cases (Good m) s = judgedStep (cases m) s
 stepOn cases (IllFormed place) s = noStep
 stepOn cases (BadField number) s = noStep
 
@@ -74,11 +74,11 @@ unfoldable pub judgedTold : Case → List ℕ → Told
 judgedTold c s = first ((notTaken (verdict c s), refusedWith 12 (verdict c s)) ∷ []) (done [])
 
 unfoldable pub judgedAfter : Case → List ℕ → List ℕ
-judgedAfter c s = behind (judgedTold c s) (stepped (stepMade c (outcome c s)) s) s
+judgedAfter c s = behind (judgedTold c s) (stepped (judgedStep c s) s) s
 
 unfoldable pub judgedSlip : Ticket → Case → List ℕ → List ℕ → List ℕ
 judgedSlip ticket c s slip =
-    behind (judgedTold c s) (image (slipOf ticket (suc (headOf s .steps)) (stepMade c (outcome c s))) ++ drop slipLong slip) slip
+    behind (judgedTold c s) (image (slipOf ticket (suc (headOf s .steps)) (judgedStep c s)) ++ drop slipLong slip) slip
 
 -- submit what a sheet was received as. Of the directory it matters whether it is fit and what case a message is by it
 abbrev pub submitBy : Bool → (Message → Case) → Ticket → ℕ → ℕ → Answer → List ℕ → List ℕ → Told

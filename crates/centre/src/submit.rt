@@ -12,6 +12,7 @@ use judge::case_from;
 use judge::end_of;
 use judge::first_failing;
 use judge::look_among;
+use judge::movement_in;
 use judge::step_of;
 use layout::SEAT_LONG;
 use layout::head;
@@ -32,7 +33,7 @@ ghost use mathlib.Core.Bool.{true, false};
 ghost use mathlib.Core.List.{_++_};
 ghost use Prim.Native.Nat.{_<_, _≤_, suc};
 ghost use lib.ListN.{length, drop};
-ghost use Rattle.slip.specs.Meaning.{seats, steps};
+ghost use Rattle.slip.specs.Meaning.{slipLong, seats, steps};
 ghost use Rattle.slip.specs.Image.{image};
 ghost use Rattle.slip.specs.Answers.{canWrite};
 ghost use Rattle.message.specs.Received.{receivedOf};
@@ -68,7 +69,7 @@ fn steps_in(room: &[u64], seat: u64) -> u64
 // Writes the slip of a step.
 fn put_slip(ticket: Ticket, number: u64, x: Step, slip: &mut [u8])
     requires { ⌜ canWrite (slipOf ticket number x) (now slip) ≡ true ⌝ }
-    ensures { λ _. ⌜ now (slip .exit) ≡ image (slipOf ticket number x) ++ drop 5 (now (slip .entry)) ⌝ }
+    ensures { λ _. ⌜ now (slip .exit) ≡ image (slipOf ticket number x) ++ drop slipLong (now (slip .entry)) ⌝ }
 {
     write(
         Slip {
@@ -85,7 +86,7 @@ fn put_slip(ticket: Ticket, number: u64, x: Step, slip: &mut [u8])
 
 // Judges a message in its seat: refused by check 1 or 2, or one step more and its slip.
 fn judge_in(s: &mut [u64], ticket: Ticket, c: Case, slip: &mut [u8]) -> Answer
-    requires { ⌜ (seatFits (now s) ≡ true) × (noTicket (ticket .opening) (now s) ≡ false) × (ticket .seat < seats) × (headOf (now s) .steps < steps) × (5 ≤ length (now slip)) × Arises c ⌝ }
+    requires { ⌜ (seatFits (now s) ≡ true) × (noTicket (ticket .opening) (now s) ≡ false) × (ticket .seat < seats) × (headOf (now s) .steps < steps) × (slipLong ≤ length (now slip)) × Arises c ⌝ }
     ensures { λ r. ⌜ told r ≡ judgedTold c (now (s .entry)) ⌝ }
     ensures { λ _. ⌜ now (s .exit) ≡ judgedAfter c (now (s .entry)) ⌝ }
     ensures { λ _. ⌜ now (slip .exit) ≡ judgedSlip ticket c (now (s .entry)) (now (slip .entry)) ⌝ }
@@ -94,7 +95,7 @@ fn judge_in(s: &mut [u64], ticket: Ticket, c: Case, slip: &mut [u8]) -> Answer
     if (check == 1) | (check == 2) {
         return Answer::NotTaken(check);
     }
-    let x = step_of(c, end_of(c, s, check));
+    let x = step_of(c, movement_in(c, s), end_of(c, s, check));
     let h = head(s);
     append(s, x);
     put_slip(ticket, h.steps + 1, x, slip);

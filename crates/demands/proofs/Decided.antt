@@ -14,9 +14,9 @@ use Rattle.table.specs.declared.Kind.the-variants.{Pacs008, Camt050, Pacs028}
 use Rattle.table.specs.Checks.{orderOf}
 use Rattle.slip.specs.Meaning.{statusNumber}
 use Rattle.judge.specs.declared.case.Case.{Case}
-use Rattle.judge.specs.declared.outcome.Outcome.{Outcome}
+use Rattle.journal.specs.declared.results.Outcome.{Outcome}
 use Rattle.judge.specs.Rows.{askedAfter}
-use Rattle.judge.specs.Verdict.{fails, rowsOf, firstFailing, verdict, transferred, answered, endOf, outcome, carried}
+use Rattle.judge.specs.Verdict.{fails, rowsOf, firstFailing, verdict, transferred, toldOf, answered, endOf, outcome, carried}
 use Rattle.centre.specs.Submit.{notTaken}
 use Rattle.demands.specs.Messages.{failedAs, passedAs}
 
@@ -69,7 +69,7 @@ unfolding notTaken
 high-taken k h = rw (ne-eqb k 1 (λ (e : k ≡ 1). omega arith), ne-eqb k 2 (λ (e : k ≡ 2). omega arith))
 
 -- a message that passes every check, and one that fails by one
-end-passed : (kind : Kind) (c : Case) (s : List ℕ) → endOf kind 0 (askedAfter c s) ≡ passedAs kind c s
+end-passed : (kind : Kind) (c : Case) (s : List ℕ) → endOf kind 0 (toldOf (askedAfter c s) s) ≡ passedAs kind c s
 unfolding endOf transferred answered
 end-passed Pacs008 c s = refl
 end-passed Camt050 c s = refl
@@ -78,7 +78,7 @@ end-passed Pacs028 c s = refl
 abbrev pub failedBy : Kind → ℕ → Outcome
 failedBy kind k = record { status = statusNumber (failedAs kind); check = k }
 
-end-failed : (kind : Kind) (k : ℕ) → 2 < k → (c : Case) (s : List ℕ) → endOf kind k (askedAfter c s) ≡ failedBy kind k
+end-failed : (kind : Kind) (k : ℕ) → 2 < k → (c : Case) (s : List ℕ) → endOf kind k (toldOf (askedAfter c s) s) ≡ failedBy kind k
 unfolding endOf transferred answered
 end-failed Pacs008 k h c s = rw (ne-eqb k 0 (λ (e : k ≡ 0). omega arith))
 end-failed Camt050 k h c s = rw (ne-eqb k 0 (λ (e : k ≡ 0). omega arith))

@@ -11,7 +11,7 @@ use lib.ListN.{length}
 use borrow.Author.Tests.{leb-true, eqb-false, eq-eqb, not-false}
 use Rattle.shape.specs.Dates.{isDate}
 use Rattle.shape.proofs.Tests.{and-left, or-left, or-right}
-use Rattle.slip.specs.Meaning.{openings, steps}
+use Rattle.slip.specs.Meaning.{slipLong, openings, steps}
 use Rattle.message.specs.declared.Message.{Message}
 use Rattle.message.specs.declared.Answer.{Answer}
 use Rattle.message.specs.declared.Answer.the-variants.{IllFormed, BadField, Good}
@@ -32,7 +32,7 @@ use Rattle.seat.proofs.Forward.{open-fits}
 use Rattle.seat.proofs.Kept.{fit-long, fit-open, set-open, set-room, set-can}
 use Rattle.judge.specs.declared.case.Case.{Case}
 use Rattle.judge.specs.Case.{Arises, caseOf}
-use Rattle.judge.specs.Verdict.{verdict, outcome, stepMade}
+use Rattle.judge.specs.Verdict.{verdict, judgedStep}
 use Rattle.judge.proofs.Places.{found-fits}
 use Rattle.judge.proofs.Possible.{judged-possible}
 use Rattle.centre.specs.declared.Ticket.{Ticket}
@@ -144,12 +144,12 @@ module _ (dir : List Participant) (s : List ℕ) where
         let eighth : Told = cond (eqb (numberOf received .0) 8) (refusedWith 8 (numberOf received .1)) ninth in
         let seventh : Told = cond (eqb (numberOf received .0) 7) (refusedWith 7 (numberOf received .1)) eighth in
         let sixth : Told = cond (eqb (headOf s .steps) steps) (refused 9) seventh in
-        let fifth : Told = cond (ltb (length slip) 5) (refused 11) sixth in
+        let fifth : Told = cond (ltb (length slip) slipLong) (refused 11) sixth in
         let fourth : Told = cond (not (leb sender codeMost && isDate today)) (refused 6) fifth in
         let two = passed (not (isFit dir)) (refused 2) (cond (noTicket (ticket .opening) s) (refused 3) fourth) refl e in
         let three = passed (noTicket (ticket .opening) s) (refused 3) fourth refl (two .1) in
         let four = passed (not (leb sender codeMost && isDate today)) (refused 6) fifth refl (three .1) in
-        let five = passed (ltb (length slip) 5) (refused 11) sixth refl (four .1) in
+        let five = passed (ltb (length slip) slipLong) (refused 11) sixth refl (four .1) in
         let six = passed (eqb (headOf s .steps) steps) (refused 9) seventh refl (five .1) in
         let seven = passed (eqb (numberOf received .0) 7) (refusedWith 7 (numberOf received .1)) eighth refl (six .1) in
         let eight = passed (eqb (numberOf received .0) 8) (refusedWith 8 (numberOf received .1)) ninth refl (seven .1) in
@@ -179,7 +179,7 @@ module _ (dir : List Participant) (s : List ℕ) where
         go (Good m) q known open-now code free seven eight taken =
             let c : Case = caseOf dir sender today m in
             record {
-              one = stepMade c (outcome c s);
+              one = judgedStep c s;
               opened = open-now;
               few = few-steps s fit open-now free;
               can = judged-possible c s (case-arises dir sender today sheet m q known code) (fit-long s fit) (fit-open s fit open-now)

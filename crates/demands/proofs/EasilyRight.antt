@@ -20,43 +20,43 @@ use Rattle.journal.specs.declared.traces.Earlier.the-variants as earlier
 use Rattle.seat.specs.declared.calls.Limit.the-variants.{Of, None}
 use Rattle.journal.specs.Steps.{setKind, isKind}
 use Rattle.journal.specs.Working.{stepped, backed, stepsFrom, journalOf}
-use Rattle.journal.specs.Traces.{leaves, firstIn, earliest}
+use Rattle.journal.specs.Traces.{leaves, firstIn, earliest, isThere}
 use Rattle.journal.specs.Limits.{turnoverAbove, turnoverShut}
 use Rattle.seat.specs.Calls.{limitNumber}
 use Rattle.journal.proofs.Backed.{back-restores}
 use Rattle.seat.proofs.Reached.{fit-free}
 use Rattle.seat.proofs.Kept.{fit-long, fit-open}
 use Rattle.judge.specs.declared.case.Case.{Case}
-use Rattle.judge.specs.Rows.{isThere, identifierRepeated, uetrRepeated}
+use Rattle.judge.specs.Rows.{identifierRepeated, uetrRepeated}
 use Rattle.demands.specs.EasilyWrong.{Taken, EasilyWrong}
 
 -- a step that is found at once is there, and one that is found behind it too
-found-here : (t : Bool) (x : Step) (rest : Earlier) → t ≡ true → isThere (cond t (earlier.Of x) rest) ≡ true
+found-here : (t : Bool) (k : ℕ) (x : Step) (rest : Earlier) → t ≡ true → isThere (cond t (earlier.Of k x) rest) ≡ true
 unfolding isThere
-found-here t x rest e = rw e
+found-here t k x rest e = rw e
 
-found-behind : (t : Bool) (x : Step) (rest : Earlier) → isThere rest ≡ true → isThere (cond t (earlier.Of x) rest) ≡ true
+found-behind : (t : Bool) (k : ℕ) (x : Step) (rest : Earlier) → isThere rest ≡ true → isThere (cond t (earlier.Of k x) rest) ≡ true
 unfolding isThere
-found-behind true x rest e = refl
-found-behind false x rest e = e
+found-behind true k x rest e = refl
+found-behind false k x rest e = e
 
 -- a step of the journal leaves the trace, so a first one is there
 found-from : (trace : Trace) (s : List ℕ) (n j k : ℕ) → j ≤ k → k < j + n → leaves trace (stepOf s k) ≡ true
-    → isThere (firstIn trace (stepsFrom s j n)) ≡ true
+    → isThere (firstIn trace j (stepsFrom s j n)) ≡ true
 unfolding firstIn stepsFrom
 found-from trace s zero j k low high e = absurd (omega arith)
 found-from trace s (suc n) j k low high e =
     go (eqb j k) refl (λ (apart : j ≡ k → ⊥). found-from trace s n (suc j) k (omega (arith, apart)) (omega arith) e)
   where
     rest : Earlier
-    rest = firstIn trace (stepsFrom s (suc j) n)
+    rest = firstIn trace (suc j) (stepsFrom s (suc j) n)
 
     go : (t : Bool) → eqb j k ≡ t → ((j ≡ k → ⊥) → isThere rest ≡ true)
-        → isThere (cond (leaves trace (stepOf s j)) (earlier.Of (stepOf s j)) rest) ≡ true
+        → isThere (cond (leaves trace (stepOf s j)) (earlier.Of j (stepOf s j)) rest) ≡ true
     go true same further =
-        found-here (leaves trace (stepOf s j)) (stepOf s j) rest
+        found-here (leaves trace (stepOf s j)) j (stepOf s j) rest
         (subst (λ (i : ℕ). leaves trace (stepOf s i) ≡ true) (sym (eqb-true j k same)) e)
-    go false other further = found-behind (leaves trace (stepOf s j)) (stepOf s j) rest (further (eqb-false j k other))
+    go false other further = found-behind (leaves trace (stepOf s j)) j (stepOf s j) rest (further (eqb-false j k other))
 
 found-in : (trace : Trace) (s : List ℕ) (k : ℕ) → k < headOf s .steps → leaves trace (stepOf s k) ≡ true → isThere (earliest trace s) ≡ true
 unfolding earliest journalOf

@@ -10,7 +10,7 @@ use lib.ListN.{length, getD, take}
 use borrow.Author.Tests.{not-true, not-false, leb-false}
 use Rattle.shape.specs.Dates.{isDate}
 use Rattle.shape.proofs.Tests.{at-place}
-use Rattle.slip.specs.Meaning.{seats, steps}
+use Rattle.slip.specs.Meaning.{slipLong, seats, steps}
 use Rattle.message.specs.declared.Message.{Message}
 use Rattle.message.specs.declared.Answer.{Answer}
 use Rattle.message.specs.declared.Answer.the-variants.{IllFormed, BadField, Good}
@@ -32,7 +32,7 @@ pub record Facts (dir : List Participant) (ticket : Ticket) (sender today : ℕ)
   pub listed : isFit dir ≡ true
   pub ticketed : ticketBad ticket room ≡ false
   pub named : (leb sender codeMost && isDate today) ≡ true
-  pub long : ltb (length slip) 5 ≡ false
+  pub long : ltb (length slip) slipLong ≡ false
   pub free : eqb (headOf (seatOf room (ticket .seat)) .steps) steps ≡ false
   pub formed : eqb (numberOf (receivedOf sheet .answer) .0) 7 ≡ false
   pub filled : eqb (numberOf (receivedOf sheet .answer) .0) 8 ≡ false
@@ -52,7 +52,7 @@ module _ (dir : List Participant) (ticket : Ticket) (sender today : ℕ) (sheet 
     listed = not-false (isFit dir) (not-true (not (isFit dir)) (passed 1 (lit< tt)));
     ticketed = not-true (ticketBad ticket room) (passed 2 (lit< tt));
     named = not-false (leb sender codeMost && isDate today) (not-true (not (leb sender codeMost && isDate today)) (passed 5 (lit< tt)));
-    long = not-true (ltb (length slip) 5) (passed 6 (lit< tt));
+    long = not-true (ltb (length slip) slipLong) (passed 6 (lit< tt));
     free = not-true (eqb (headOf (seatOf room (ticket .seat)) .steps) steps) (passed 7 (lit< tt));
     formed = not-true (eqb (numberOf (receivedOf sheet .answer) .0) 7) (passed 9 (lit< tt));
     filled = not-true (eqb (numberOf (receivedOf sheet .answer) .0) 8) (passed 10 (lit< tt));

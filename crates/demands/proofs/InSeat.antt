@@ -7,7 +7,7 @@ use Prim.Native.Nat.{ℕ, suc}
 use lib.Dec.{leb, ltb, eqb}
 use lib.ListN.{length, drop}
 use Rattle.shape.specs.Dates.{isDate}
-use Rattle.slip.specs.Meaning.{openings, steps}
+use Rattle.slip.specs.Meaning.{slipLong, openings, steps}
 use Rattle.slip.specs.Image.{image}
 use Rattle.slip.specs.Answers.{writeAfter}
 use Rattle.message.specs.Received.{numberOf, receivedOf}
@@ -43,7 +43,7 @@ module _ (dir : List Participant) where
       (not (isFit dir), refused 2)
       ∷ (noTicket (ticket .opening) s, refused 3)
       ∷ (not (leb sender codeMost && isDate today), refused 6)
-      ∷ (ltb (length slip) 5, refused 11)
+      ∷ (ltb (length slip) slipLong, refused 11)
       ∷ (eqb (headOf s .steps) steps, refused 9)
       ∷ (eqb (numberOf (receivedOf sheet .answer) .0) 7, refusedWith 7 (numberOf (receivedOf sheet .answer) .1))
       ∷ (eqb (numberOf (receivedOf sheet .answer) .0) 8, refusedWith 8 (numberOf (receivedOf sheet .answer) .1))
@@ -71,7 +71,7 @@ module _ (dir : List Participant) where
   actWrites ticket (set owner number wish) s = []
   actWrites ticket (submit sender today sheet slip) s =
       behind (actTells ticket (submit sender today sheet slip) s)
-      (image (slipOf ticket (suc (headOf s .steps)) (stepOn (caseOf dir sender today) (receivedOf sheet .answer) s)) ++ drop 5 slip) slip
+      (image (slipOf ticket (suc (headOf s .steps)) (stepOn (caseOf dir sender today) (receivedOf sheet .answer) s)) ++ drop slipLong slip) slip
   actWrites ticket takeBack s = []
   actWrites ticket (read owner number) s = []
 

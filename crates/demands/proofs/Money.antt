@@ -18,7 +18,8 @@ use Rattle.layout.specs.Seat.{accounts, accountOf, seatOf}
 use Rattle.judge.specs.declared.case.Case.{Case}
 use Rattle.judge.specs.Values.{orZero}
 use Rattle.judge.specs.Case.{movementOf, caseOf, Arises}
-use Rattle.judge.specs.Verdict.{verdict, outcome, carried}
+use Rattle.judge.specs.Rows.{movementIn}
+use Rattle.judge.specs.Verdict.{verdict, outcome, carried, judgedStep}
 use Rattle.judge.proofs.Passed.{money-there}
 use Rattle.judge.proofs.Movements.{Movable, payment-moves, transfer-moves}
 use Rattle.centre.specs.declared.Ticket.{Ticket}
@@ -27,7 +28,7 @@ use Rattle.demands.specs.Messages.{passedAs, Unmoved, Moved, MovedBy}
 use Rattle.demands.proofs.Decided.{none-taken, outcome-passed, asked-rests}
 use Rattle.demands.proofs.Heard.{Facts}
 use Rattle.demands.proofs.Taken.{arises, account-behind}
-use Rattle.demands.proofs.Movement.{rests, moves}
+use Rattle.demands.proofs.Movement.{rests, carries}
 
 -- a transfer that passes is carried out
 payment-carried : (c : Case) (s : List ℕ) → carried Pacs008 (passedAs Pacs008 c s) ≡ true
@@ -58,13 +59,14 @@ module _ (dir : List Participant) (ticket : Ticket) (sender today : ℕ) (sheet 
   -- nothing moves where the message is not carried out
   pub unmoved : notTaken (verdict case place) ≡ false → carried (m .kind) (outcome case place) ≡ false
       → Unmoved dir ticket sender today sheet slip room
-  unfolding caseOf
+  unfolding caseOf judgedStep
   unmoved takes e i h =
-      account-behind dir ticket sender today sheet slip room f m good takes i h ∙ rests case (outcome case place) e i (accountOf place i)
+      account-behind dir ticket sender today sheet slip room f m good takes i h
+      ∙ rests case (movementIn case place) (outcome case place) e i (accountOf place i)
 
   -- the amount that is moved is that of the message
-  amount-moved : (given : IsAmount (m .amount)) → case .movement .amount ≡ given .kopecks
-  unfolding caseOf movementOf orZero
+  amount-moved : (given : IsAmount (m .amount)) → movementIn case place .amount ≡ given .kopecks
+  unfolding movementIn caseOf movementOf orZero
   amount-moved given = ap orZero (given .given)
 
   module _ (none : verdict case place ≡ 0) where
@@ -77,11 +79,11 @@ module _ (dir : List Participant) (ticket : Ticket) (sender today : ℕ) (sheet 
     ends kind same = subst (λ (k : Kind). outcome case place ≡ passedAs k case place) same (outcome-passed case place none)
 
     -- a transfer that can be made and is carried out moves its amount
-    moved : (kind : Kind) → m .kind ≡ kind → runs kind 22 ≡ true → Movable kind (case .movement) → IsAmount (m .amount)
+    moved : (kind : Kind) → m .kind ≡ kind → runs kind 22 ≡ true → Movable kind (movementIn case place) → IsAmount (m .amount)
         → carried (m .kind) (outcome case place) ≡ true → Moved dir ticket sender today sheet slip room case
-    unfolding caseOf
+    unfolding caseOf judgedStep
     moved kind same covers able given done =
-        let sum : case .movement .amount ≡ given .kopecks = amount-moved given in
+        let sum : movementIn case place .amount ≡ given .kopecks = amount-moved given in
         record {
           debit = able .debit;
           credit = able .credit;
@@ -93,8 +95,8 @@ module _ (dir : List Participant) (ticket : Ticket) (sender today : ℕ) (sheet 
               (money-there case place none kind same covers (able .debit) (able .debited) (able .debit-low));
           moves = λ (i : ℕ) (h : i < accounts).
               account-behind dir ticket sender today sheet slip room f m good taken i h
-              ∙ moves case (outcome case place) done (able .debit) (able .credit) (given .kopecks) (able .debited) (able .credited) sum
-              (given .least) i (accountOf place i);
+              ∙ carries case (movementIn case place) (outcome case place) done (able .debit) (able .credit) (given .kopecks)
+              (able .debited) (able .credited) sum i (accountOf place i);
         }
 
     comes-up : Arises case

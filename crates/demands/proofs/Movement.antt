@@ -3,8 +3,7 @@
 -- Assumes nothing.
 use mathlib.Core.Path.{_≡_, refl, sym, ap, _∙_}
 use mathlib.Core.Bool.{Bool, true, false, _&&_, cond, false≢true}
-use Prim.Native.Nat.{ℕ, _≤_}
-use native.Mathlib.Omega.{arith}
+use Prim.Native.Nat.{ℕ}
 use lib.Dec.{eqb}
 use borrow.Author.Tests.{eqb-true, eqb-false, eq-eqb, ne-eqb}
 use Rattle.shape.specs.declared.value.Value.the-variants.{Of}
@@ -14,14 +13,15 @@ use Rattle.table.specs.declared.Kind.the-variants.{Pacs008, Camt050, Pacs028}
 use Rattle.slip.specs.Meaning.{kindNumber}
 use Rattle.layout.specs.declared.rows.Account.{Account}
 use Rattle.layout.specs.declared.rows.Step.{Step}
-use Rattle.journal.specs.Steps.{setKind, isKind}
+use Rattle.journal.specs.Steps.{setKind, isKind, moves}
 use Rattle.journal.specs.Working.{debited, credited, turned}
 use Rattle.journal.proofs.Changed.{hit, after}
 use Rattle.judge.specs.declared.case.Case.{Case}
-use Rattle.judge.specs.declared.outcome.Outcome.{Outcome}
+use Rattle.judge.specs.declared.case.Movement.{Movement}
+use Rattle.journal.specs.declared.results.Outcome.{Outcome}
 use Rattle.judge.specs.Values.{orZero}
 use Rattle.judge.specs.Verdict.{carried, stepMade}
-use Rattle.judge.proofs.Possible.{no-set-kind}
+use Rattle.judge.proofs.Possible.{no-set-kind, made-moves}
 use Rattle.demands.specs.Messages.{behindMove}
 
 -- numbers compared either way
@@ -55,48 +55,42 @@ move-behind d e n i a =
     eqb-false d e q (sym (eqb-true i d (and-left (eqb i d) (eqb i e) b)) ∙ eqb-true i e (and-right (eqb i d) (eqb i e) b))))
 
 -- the same of a step that is no set
-moves-nothing : (x : Step) (i : ℕ) (a : Account) → isKind setKind x ≡ false → x .amount ≡ 0 → after x i a ≡ a
+moves-nothing : (x : Step) (i : ℕ) (a : Account) → isKind setKind x ≡ false → moves x ≡ false → after x i a ≡ a
 unfolding after
 moves-nothing x i a k n = rw (k, n)
 
-moves-amount : (x : Step) (i : ℕ) (a : Account) → isKind setKind x ≡ false → 1 ≤ x .amount
+moves-amount : (x : Step) (i : ℕ) (a : Account) → isKind setKind x ≡ false → moves x ≡ true
     → after x i a ≡ behindMove (x .debit) (x .credit) (x .amount) i a
 unfolding after
-moves-amount x i a k n =
-    rw (k, ne-eqb (x .amount) 0 (λ (z : x .amount ≡ 0). omega arith)) (move-behind (x .debit) (x .credit) (x .amount) i a)
+moves-amount x i a k n = rw (k, n) (move-behind (x .debit) (x .credit) (x .amount) i a)
 
-module _ (c : Case) (o : Outcome) where
-  -- not carried out
-  rests-amount : carried (c .message .kind) o ≡ false → stepMade c o .amount ≡ 0
-  unfolding stepMade
-  rests-amount e = rw e
-
-  is-no-set : isKind setKind (stepMade c o) ≡ false
+module _ (c : Case) (m : Movement) (o : Outcome) where
+  is-no-set : isKind setKind (stepMade c m o) ≡ false
   unfolding stepMade
   is-no-set = no-set-kind (c .message .kind)
 
-  pub rests : carried (c .message .kind) o ≡ false → (i : ℕ) (a : Account) → after (stepMade c o) i a ≡ a
-  rests e i a = moves-nothing (stepMade c o) i a is-no-set (rests-amount e)
+  -- not carried out
+  pub rests : carried (c .message .kind) o ≡ false → (i : ℕ) (a : Account) → after (stepMade c m o) i a ≡ a
+  rests e i a = moves-nothing (stepMade c m o) i a is-no-set (made-moves c m o ∙ e)
 
   -- carried out between two accounts
-  module _ (e : carried (c .message .kind) o ≡ true) (debit credit amount : ℕ) (from : c .movement .debit ≡ Of debit)
-      (to : c .movement .credit ≡ Of credit) (sum : c .movement .amount ≡ amount) where
-    debit-is : stepMade c o .debit ≡ debit
+  module _ (e : carried (c .message .kind) o ≡ true) (debit credit amount : ℕ) (from : m .debit ≡ Of debit)
+      (to : m .credit ≡ Of credit) (sum : m .amount ≡ amount) where
+    debit-is : stepMade c m o .debit ≡ debit
     unfolding stepMade orZero
     debit-is = rw (e, from)
 
-    credit-is : stepMade c o .credit ≡ credit
+    credit-is : stepMade c m o .credit ≡ credit
     unfolding stepMade orZero
     credit-is = rw (e, to)
 
-    amount-is : stepMade c o .amount ≡ amount
+    amount-is : stepMade c m o .amount ≡ amount
     unfolding stepMade
     amount-is = rw (e, sum)
 
-    pub moves : 1 ≤ amount → (i : ℕ) (a : Account) → after (stepMade c o) i a ≡ behindMove debit credit amount i a
-    moves least i a =
-        let here : stepMade c o .amount ≡ amount = amount-is in
-        moves-amount (stepMade c o) i a is-no-set (omega arith)
-        ∙ ap (λ (n : ℕ). behindMove n (stepMade c o .credit) (stepMade c o .amount) i a) debit-is
-        ∙ ap (λ (n : ℕ). behindMove debit n (stepMade c o .amount) i a) credit-is
+    pub carries : (i : ℕ) (a : Account) → after (stepMade c m o) i a ≡ behindMove debit credit amount i a
+    carries i a =
+        moves-amount (stepMade c m o) i a is-no-set (made-moves c m o ∙ e)
+        ∙ ap (λ (n : ℕ). behindMove n (stepMade c m o .credit) (stepMade c m o .amount) i a) debit-is
+        ∙ ap (λ (n : ℕ). behindMove debit n (stepMade c m o .amount) i a) credit-is
         ∙ ap (λ (n : ℕ). behindMove debit credit n i a) amount-is

@@ -9,7 +9,7 @@ use Prim.Native.Nat.{ℕ, suc, _<_}
 use native.Mathlib.Omega.{arith}
 use lib.ListN.{length, drop}
 use borrow.Author.Tests.{leb-false}
-use Rattle.slip.specs.Meaning.{seats}
+use Rattle.slip.specs.Meaning.{slipLong, seats}
 use Rattle.slip.specs.Image.{image}
 use Rattle.message.specs.Received.{receivedOf}
 use Rattle.directory.specs.declared.Participant.{Participant}
@@ -100,7 +100,7 @@ module _ (dir : List Participant) (room : List ℕ) (fit : roomFits room ≡ tru
     act-slip (submit sender today sheet slip) =
         let s : List ℕ = seatOf room (ticket .seat) in
         ap (λ (t : Told). behind t
-        (image (slipOf ticket (suc (headOf s .steps)) (stepOn (caseOf dir sender today) (receivedOf sheet .answer) s)) ++ drop 5 slip) slip)
+        (image (slipOf ticket (suc (headOf s .steps)) (stepOn (caseOf dir sender today) (receivedOf sheet .answer) s)) ++ drop slipLong slip) slip)
         (act-told (submit sender today sheet slip))
     act-slip takeBack = refl
     act-slip (read owner number) = refl

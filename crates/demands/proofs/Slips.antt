@@ -12,7 +12,7 @@ use borrow.Author.Tests.{eqb-true}
 use Rattle.shape.specs.Bytes.{every}
 use Rattle.shape.proofs.Tests.{and-left, and-right}
 use Rattle.slip.specs.declared.Slip.{Slip}
-use Rattle.slip.specs.Meaning.{isSlip}
+use Rattle.slip.specs.Meaning.{slipLong, isSlip}
 use Rattle.slip.specs.Image.{image, slipOf}
 use Rattle.slip.specs.Answers.{canWrite, writeAfter, holdsSlip}
 use Rattle.slip.proofs.Exact.{image-back, bytes-back}
@@ -38,28 +38,28 @@ unfolding readTold
 read-done bytes e = rw e
 
 -- the first five bytes of what is left are those of the slip
-five-first : (slip : Slip) (rest : List ℕ) → take 5 (image slip ++ rest) ≡ image slip
+five-first : (slip : Slip) (rest : List ℕ) → take slipLong (image slip ++ rest) ≡ image slip
 unfolding image
 five-first slip rest = refl
 
-written-image : (slip : Slip) (buffer : List ℕ) → canWrite slip buffer ≡ true → take 5 (writeAfter slip buffer) ≡ image slip
+written-image : (slip : Slip) (buffer : List ℕ) → canWrite slip buffer ≡ true → take slipLong (writeAfter slip buffer) ≡ image slip
 unfolding writeAfter
-written-image slip buffer e = rw e (five-first slip (drop 5 buffer))
+written-image slip buffer e = rw e (five-first slip (drop slipLong buffer))
 
 written-sound : (slip : Slip) (buffer : List ℕ) → canWrite slip buffer ≡ true → isSlip slip ≡ true
 unfolding canWrite
-written-sound slip buffer e = and-right (leb 5 (length buffer)) (isSlip slip) e
+written-sound slip buffer e = and-right (leb slipLong (length buffer)) (isSlip slip) e
 
 image-holds : (slip : Slip) → isSlip slip ≡ true → holdsSlip (image slip) ≡ true
 unfolding holdsSlip image
 image-holds slip e = rw (image-back slip e, e)
 
 -- bytes that hold a slip
-holds-parts : (bytes : List ℕ) → holdsSlip bytes ≡ true → (length bytes ≡ 5) × (isSlip (slipOf bytes) ≡ true)
+holds-parts : (bytes : List ℕ) → holdsSlip bytes ≡ true → (length bytes ≡ slipLong) × (isSlip (slipOf bytes) ≡ true)
 unfolding holdsSlip
 holds-parts bytes e = (
-  eqb-true (length bytes) 5 (and-left (eqb (length bytes) 5) (isSlip (slipOf bytes)) e),
-  and-right (eqb (length bytes) 5) (isSlip (slipOf bytes)) e,
+  eqb-true (length bytes) slipLong (and-left (eqb (length bytes) slipLong) (isSlip (slipOf bytes)) e),
+  and-right (eqb (length bytes) slipLong) (isSlip (slipOf bytes)) e,
 )
 
 pub slips : Slips

@@ -8,7 +8,7 @@ use Prim.Native.Nat.{ℕ, suc}
 use lib.Dec.{leb, ltb, eqb}
 use lib.ListN.{length}
 use Rattle.shape.specs.Dates.{isDate}
-use Rattle.slip.specs.Meaning.{openings, steps}
+use Rattle.slip.specs.Meaning.{slipLong, openings, steps}
 use Rattle.slip.specs.Image.{slipOf}
 use Rattle.slip.specs.Answers.{canWrite, holdsSlip}
 use Rattle.message.specs.declared.Answer.{Answer}
@@ -106,7 +106,7 @@ module _ (dir : List Participant) (room : List ℕ) where
       ∷ (not (isFit dir), refused 2)
       ∷ (ticketBad ticket room, refused 3)
       ∷ (not (leb sender codeMost && isDate today), refused 6)
-      ∷ (ltb (length slip) 5, refused 11)
+      ∷ (ltb (length slip) slipLong, refused 11)
       ∷ (eqb (headOf s .steps) steps, refused 9)
       ∷ (eqb (numberOf received .0) 7, refusedWith 7 (numberOf received .1))
       ∷ (eqb (numberOf received .0) 8, refusedWith 8 (numberOf received .1))

@@ -11,7 +11,7 @@ use lib.ListN.{length, drop}
 use borrow.Author.Tests.{leb-true, eq-eqb, eqb-false}
 use Rattle.shape.specs.Dates.{isDate}
 use Rattle.shape.proofs.Tests.{and-left, or-left, or-right}
-use Rattle.slip.specs.Meaning.{seats, steps}
+use Rattle.slip.specs.Meaning.{seats, steps, slipLong}
 use Rattle.slip.specs.Image.{image}
 use Rattle.message.specs.declared.Message.{Message}
 use Rattle.message.specs.declared.Answer.the-variants.{Good}
@@ -32,9 +32,9 @@ use Rattle.seat.proofs.Forward.{open-fits}
 use Rattle.seat.proofs.Kept.{fit-long, fit-open}
 use Rattle.seat.proofs.Rooms.{room-long, room-seat}
 use Rattle.judge.specs.declared.case.Case.{Case}
-use Rattle.judge.specs.declared.outcome.Outcome.{Outcome}
+use Rattle.journal.specs.declared.results.Outcome.{Outcome}
 use Rattle.judge.specs.Case.{caseOf, Arises}
-use Rattle.judge.specs.Verdict.{verdict, outcome, stepMade}
+use Rattle.judge.specs.Verdict.{verdict, outcome, stepMade, judgedStep}
 use Rattle.judge.proofs.Possible.{judged-possible}
 use Rattle.centre.specs.declared.Ticket.{Ticket}
 use Rattle.centre.specs.Answers.{done, refusedWith, isDone}
@@ -58,7 +58,7 @@ module _ (dir : List Participant) (ticket : Ticket) (sender today : ℕ) (sheet 
   place = seatOf room (ticket .seat)
 
   abbrev pub made : Step
-  made = stepMade case (outcome case place)
+  made = judgedStep case place
 
   -- the answer is that of the message judged in its seat
   told-judged : submitTold dir ticket sender today sheet slip room ≡ judgedTold case place
@@ -117,7 +117,7 @@ module _ (dir : List Participant) (ticket : Ticket) (sender today : ℕ) (sheet 
       behind-refused (submitTold dir ticket sender today sheet slip room)
           (withSeat room (ticket .seat) (stepped (stepOn (caseOf dir sender today) (receivedOf sheet .answer) place) place)) room over,
       behind-refused (submitTold dir ticket sender today sheet slip room)
-          (image (slipOf ticket (suc (headOf place .steps)) (stepOn (caseOf dir sender today) (receivedOf sheet .answer) place)) ++ drop 5 slip) slip over,
+          (image (slipOf ticket (suc (headOf place .steps)) (stepOn (caseOf dir sender today) (receivedOf sheet .answer) place)) ++ drop slipLong slip) slip over,
     )
 
   -- taken
@@ -153,16 +153,16 @@ module _ (dir : List Participant) (ticket : Ticket) (sender today : ℕ) (sheet 
     account-behind i h = ap (λ (s : List ℕ). accountOf s i) seat-behind ∙ stepped-account made place seat-long made-fits steps-low i h
 
     slip-made : submitSlip dir ticket sender today sheet slip room
-        ≡ image (slipOf ticket (suc (headOf place .steps)) made) ++ drop 5 slip
+        ≡ image (slipOf ticket (suc (headOf place .steps)) made) ++ drop slipLong slip
     unfolding submitTold submitSlip
     slip-made =
         behind-done (submitTold dir ticket sender today sheet slip room)
-        (image (slipOf ticket (suc (headOf place .steps)) (stepOn (caseOf dir sender today) (receivedOf sheet .answer) place)) ++ drop 5 slip) slip finished
-        ∙ ap (λ (x : Step). image (slipOf ticket (suc (headOf place .steps)) x) ++ drop 5 slip) step-made
+        (image (slipOf ticket (suc (headOf place .steps)) (stepOn (caseOf dir sender today) (receivedOf sheet .answer) place)) ++ drop slipLong slip) slip finished
+        ∙ ap (λ (x : Step). image (slipOf ticket (suc (headOf place .steps)) x) ++ drop slipLong slip) step-made
 
-    slip-says : image (slipOf ticket (suc (headOf place .steps)) made) ++ drop 5 slip
+    slip-says : image (slipOf ticket (suc (headOf place .steps)) made) ++ drop slipLong slip
         ≡ slipBehind dir ticket sender today sheet slip room (m .kind) (outcome case place)
-    unfolding slipOf stepMade caseOf
+    unfolding slipOf judgedStep stepMade caseOf
     slip-says = refl
 
     count-behind : headOf (seatOf (submitAfter dir ticket sender today sheet slip room) (ticket .seat)) .steps ≡ suc (headOf place .steps)
@@ -175,7 +175,7 @@ module _ (dir : List Participant) (ticket : Ticket) (sender today : ℕ) (sheet 
 
     -- it is recorded with its outcome
     outcome-recorded : Recorded dir ticket sender today sheet slip room (m .kind) (outcome case place)
-    unfolding stepMade caseOf
+    unfolding judgedStep stepMade caseOf
     outcome-recorded = record {
       answered = told-done;
       slipped = slip-made ∙ slip-says;

@@ -15,7 +15,7 @@ use Rattle.table.specs.Checks.{orderOf}
 use Rattle.slip.specs.declared.Slip.{Slip}
 use Rattle.slip.specs.declared.Status.{Status}
 use Rattle.slip.specs.declared.Status.the-variants.{Pdng, Accc, Rjct}
-use Rattle.slip.specs.Meaning.{kindNumber, statusNumber, isSlip}
+use Rattle.slip.specs.Meaning.{slipLong, kindNumber, statusNumber, isSlip}
 use Rattle.slip.specs.Image.{image}
 use Rattle.slip.specs.Answers.{writeAfter}
 use Rattle.message.specs.declared.Message.{Message}
@@ -24,11 +24,11 @@ use Rattle.message.specs.Received.{receivedOf}
 use Rattle.directory.specs.declared.Participant.{Participant}
 use Rattle.layout.specs.declared.rows.Account.{Account}
 use Rattle.layout.specs.Seat.{accounts, headOf, accountOf, stepOf, seatOf}
+use Rattle.journal.specs.declared.results.Outcome.{Outcome}
 use Rattle.journal.specs.Working.{debited, credited, turned}
 use Rattle.judge.specs.declared.case.Case.{Case}
-use Rattle.judge.specs.declared.outcome.Outcome.{Outcome}
 use Rattle.judge.specs.Case.{caseOf}
-use Rattle.judge.specs.Rows.{askedAfter}
+use Rattle.judge.specs.Rows.{askedAfter, movementIn}
 use Rattle.judge.specs.Verdict.{fails, toldOf}
 use Rattle.centre.specs.declared.Ticket.{Ticket}
 use Rattle.centre.specs.Answers.{Told, done, refusedWith, slipValues}
@@ -51,11 +51,11 @@ failedAs Pacs008 = Rjct
 failedAs Camt050 = Rjct
 failedAs Pacs028 = Pdng
 
--- how a message ends that passes every check: a transfer with ACCC and 0, a pacs.028 with the end of the payment that it asks after
+-- how a message ends that passes every check: a transfer with ACCC and 0, a pacs.028 with what has become of the payment that it asks after
 abbrev pub passedAs : Kind → Case → List ℕ → Outcome
 passedAs Pacs008 c s = record { status = statusNumber Accc; check = 0 }
 passedAs Camt050 c s = record { status = statusNumber Accc; check = 0 }
-passedAs Pacs028 c s = toldOf (askedAfter c s)
+passedAs Pacs028 c s = toldOf (askedAfter c s) s
 
 module _ (dir : List Participant) (ticket : Ticket) (sender today : ℕ) (sheet slip room : List ℕ) where
   abbrev pub answer : Told
@@ -89,7 +89,7 @@ module _ (dir : List Participant) (ticket : Ticket) (sender today : ℕ) (sheet 
         opening = ticket .opening;
         step = suc (headOf seat .steps);
       })
-      ++ drop 5 slip
+      ++ drop slipLong slip
 
   -- the message was one step more with this outcome, and has its slip
   pub record Recorded (kind : Kind) (o : Outcome) : Type 0 where
@@ -109,8 +109,8 @@ module _ (dir : List Participant) (ticket : Ticket) (sender today : ℕ) (sheet 
     pub debit : ℕ
     pub credit : ℕ
     pub amount : ℕ
-    pub debits : c .movement .debit ≡ Of debit
-    pub credits : c .movement .credit ≡ Of credit
+    pub debits : movementIn c seat .debit ≡ Of debit
+    pub credits : movementIn c seat .credit ≡ Of credit
     pub amounts : c .message .amount ≡ Of amount
     pub there : amount ≤ accountOf seat debit .balance
     pub moves : (i : ℕ) → i < accounts → accountOf seatThen i ≡ behindMove debit credit amount i (accountOf seat i)
@@ -153,7 +153,7 @@ pub record ReadAs (bytes : List ℕ) : Type 0 where
 -- slips written are read back the same, and no other bytes are read as a slip
 pub record Slips : Type 0 where
   pub back : (slip : Slip) (buffer : List ℕ) → writeTold slip buffer .number ≡ 0
-      → readTold (take 5 (writeAfter slip buffer)) ≡ done (slipValues slip)
+      → readTold (take slipLong (writeAfter slip buffer)) ≡ done (slipValues slip)
   pub only : (bytes : List ℕ) → readTold bytes .number ≡ 0 → every (λ (b : ℕ). ltb b 256) bytes ≡ true → ReadAs bytes
 
 abbrev pub Demand2 : Type 0

@@ -28,7 +28,7 @@ use Rattle.layout.proofs.Seats.{
   step-past-head,
   same-seat,
 }
-use Rattle.journal.specs.Steps.{setKind, isKind, stepFits, noStep}
+use Rattle.journal.specs.Steps.{setKind, isKind, moves, stepFits, noStep}
 use Rattle.journal.specs.Working.{
   settled,
   debited,
@@ -50,7 +50,7 @@ use Rattle.journal.proofs.Changed.{
   sets,
   rests,
   turns,
-  moves,
+  transfers,
   sort,
   hit,
   after,
@@ -119,7 +119,7 @@ module _ (x : Step) (s : List ℕ) (p : possible x s ≡ true) where
   possible-old k = same-settings (x .old) (accountOf s (x .account) .settings) (rw k at possible-covered)
 
   -- a movement between two accounts is covered
-  pub possible-debit : isKind setKind x ≡ false → eqb (x .amount) 0 ≡ false → eqb (x .debit) (x .credit) ≡ false
+  pub possible-debit : isKind setKind x ≡ false → moves x ≡ true → eqb (x .debit) (x .credit) ≡ false
       → x .amount ≤ accountOf s (x .debit) .balance
   unfolding covered
   possible-debit k n q = leb-true (x .amount) (accountOf s (x .debit) .balance) (rw (k, n, q) at possible-covered)
@@ -166,7 +166,7 @@ restores x s i p (sets k b) =
     (λ (same : x .account ≡ i). possible-old x s p k ∙ ap (λ (j : ℕ). accountOf s j .settings) same))
 restores x s i p (rests k n) = rw (k, n)
 restores x s i p (turns k n q b m) = rw (k, n, q) (restores-turn (x .debit) i (x .amount) (accountOf s i))
-restores x s i p (moves k n q b c m) =
+restores x s i p (transfers k n q b c m) =
     rw (k, n, q) (restores-move (x .debit) (x .credit) i (x .amount) (accountOf s i) (eqb-false (x .debit) (x .credit) q)
     (λ (same : x .debit ≡ i). subst (λ (j : ℕ). x .amount ≤ accountOf s j .balance) same (possible-debit x s p k n q)))
 

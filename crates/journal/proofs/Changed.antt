@@ -1,13 +1,13 @@
 -- What a step does to a seat and what taking it back does, row by row: the head and the journal stay, and each account is changed by
 -- itself. A step does one of four things, which `Sort` tells apart.
 -- Assumes nothing.
-use mathlib.Core.Path.{_≡_, refl, sym, ap, subst, _∙_}
+use mathlib.Core.Path.{_≡_, refl, ap, subst, _∙_}
 use mathlib.Core.Bool.{Bool, true, false, cond}
 use mathlib.Core.List.{List}
 use Prim.Native.Nat.{ℕ, suc, _≤_, _<_}
 use lib.Dec.{eqb}
 use lib.ListN.{length}
-use borrow.Author.Tests.{eqb-true, eqb-false, eq-eqb, ne-eqb}
+use borrow.Author.Tests.{eqb-true, eqb-false}
 use Rattle.slip.specs.Meaning.{steps}
 use Rattle.layout.specs.declared.rows.Account.{Account}
 use Rattle.layout.specs.declared.rows.Step.{Step}
@@ -27,7 +27,7 @@ use Rattle.layout.proofs.Seats.{
   step-past-head,
   step-past-account,
 }
-use Rattle.journal.specs.Steps.{setKind, amountMost, isKind, stepFits}
+use Rattle.journal.specs.Steps.{setKind, amountMost, isKind, moves, stepFits}
 use Rattle.journal.specs.Working.{
   settled,
   debited,
@@ -49,30 +49,30 @@ use Rattle.journal.proofs.StepLaws.{set-account, moved-within}
 -- a step that fits is a set, moves nothing, moves within one account, or moves between two
 pub data Sort (x : Step) : Type 0 where
   sets : isKind setKind x ≡ true → x .account < accounts → Sort x
-  rests : isKind setKind x ≡ false → eqb (x .amount) 0 ≡ true → Sort x
-  turns : isKind setKind x ≡ false → eqb (x .amount) 0 ≡ false → eqb (x .debit) (x .credit) ≡ true
+  rests : isKind setKind x ≡ false → moves x ≡ false → Sort x
+  turns : isKind setKind x ≡ false → moves x ≡ true → eqb (x .debit) (x .credit) ≡ true
       → x .debit < accounts → x .amount ≤ amountMost → Sort x
-  moves : isKind setKind x ≡ false → eqb (x .amount) 0 ≡ false → eqb (x .debit) (x .credit) ≡ false
+  transfers : isKind setKind x ≡ false → moves x ≡ true → eqb (x .debit) (x .credit) ≡ false
       → x .debit < accounts → x .credit < accounts → x .amount ≤ amountMost → Sort x
 
 pub sort : (x : Step) → stepFits x ≡ true → Sort x
 sort x e = kinds (isKind setKind x) refl
   where
-    sides : isKind setKind x ≡ false → eqb (x .amount) 0 ≡ false → (t : Bool) → eqb (x .debit) (x .credit) ≡ t → Sort x
+    sides : isKind setKind x ≡ false → moves x ≡ true → (t : Bool) → eqb (x .debit) (x .credit) ≡ t → Sort x
     sides k n true q =
-        let within = moved-within x e k (eqb-false (x .amount) 0 n) in
+        let within = moved-within x e k n in
         turns k n q (within .0) (within .2)
     sides k n false q =
-        let within = moved-within x e k (eqb-false (x .amount) 0 n) in
-        moves k n q (within .0) (within .1) (within .2)
+        let within = moved-within x e k n in
+        transfers k n q (within .0) (within .1) (within .2)
 
-    amounts : isKind setKind x ≡ false → (t : Bool) → eqb (x .amount) 0 ≡ t → Sort x
-    amounts k true n = rests k n
-    amounts k false n = sides k n (eqb (x .debit) (x .credit)) refl
+    movements : isKind setKind x ≡ false → (t : Bool) → moves x ≡ t → Sort x
+    movements k true n = sides k n (eqb (x .debit) (x .credit)) refl
+    movements k false n = rests k n
 
     kinds : (t : Bool) → isKind setKind x ≡ t → Sort x
     kinds true k = sets k (set-account x e k)
-    kinds false k = amounts k (eqb (x .amount) 0) refl
+    kinds false k = movements k (moves x) refl
 
 -- what becomes of account j where account i is changed
 abbrev pub hit : ℕ → ℕ → (Account → Account) → Account → Account
@@ -82,16 +82,18 @@ hit i j f a = cond (eqb i j) (f a) a
 unfoldable pub after : Step → ℕ → Account → Account
 after x j a =
     cond (isKind setKind x) (hit (x .account) j (settled (x .given)) a)
-    (cond (eqb (x .amount) 0) a
+    (cond (moves x)
     (cond (eqb (x .debit) (x .credit)) (hit (x .debit) j (turned (x .amount)) a)
-    (hit (x .credit) j (credited (x .amount)) (hit (x .debit) j (debited (x .amount)) a))))
+    (hit (x .credit) j (credited (x .amount)) (hit (x .debit) j (debited (x .amount)) a)))
+    a)
 
 unfoldable pub before : Step → ℕ → Account → Account
 before x j a =
     cond (isKind setKind x) (hit (x .account) j (settled (x .old)) a)
-    (cond (eqb (x .amount) 0) a
+    (cond (moves x)
     (cond (eqb (x .debit) (x .credit)) (hit (x .debit) j (unturned (x .amount)) a)
-    (hit (x .debit) j (undebited (x .amount)) (hit (x .credit) j (uncredited (x .amount)) a))))
+    (hit (x .debit) j (undebited (x .amount)) (hit (x .credit) j (uncredited (x .amount)) a)))
+    a)
 
 -- one account changed: everything else is as it was
 module _ (f : Account → Account) (i : ℕ) (s : List ℕ) (l : length s ≡ seatLong) (b : i < accounts) where
@@ -133,29 +135,29 @@ module _ (x : Step) (s : List ℕ) (k : isKind setKind x ≡ true) where
   uneffect-set = rw k
 
 module _ (x : Step) (s : List ℕ) (k : isKind setKind x ≡ false) where
-  pub effect-none : eqb (x .amount) 0 ≡ true → effect x s ≡ s
+  pub effect-none : moves x ≡ false → effect x s ≡ s
   unfolding effect
   effect-none n = rw (k, n)
 
-  pub uneffect-none : eqb (x .amount) 0 ≡ true → uneffect x s ≡ s
+  pub uneffect-none : moves x ≡ false → uneffect x s ≡ s
   unfolding uneffect
   uneffect-none n = rw (k, n)
 
-  pub effect-turn : eqb (x .amount) 0 ≡ false → eqb (x .debit) (x .credit) ≡ true → effect x s ≡ changed (turned (x .amount)) (x .debit) s
+  pub effect-turn : moves x ≡ true → eqb (x .debit) (x .credit) ≡ true → effect x s ≡ changed (turned (x .amount)) (x .debit) s
   unfolding effect moved
   effect-turn n q = rw (k, n, q)
 
-  pub uneffect-turn : eqb (x .amount) 0 ≡ false → eqb (x .debit) (x .credit) ≡ true
+  pub uneffect-turn : moves x ≡ true → eqb (x .debit) (x .credit) ≡ true
       → uneffect x s ≡ changed (unturned (x .amount)) (x .debit) s
   unfolding uneffect unmoved
   uneffect-turn n q = rw (k, n, q)
 
-  pub effect-move : eqb (x .amount) 0 ≡ false → eqb (x .debit) (x .credit) ≡ false
+  pub effect-move : moves x ≡ true → eqb (x .debit) (x .credit) ≡ false
       → effect x s ≡ changed (credited (x .amount)) (x .credit) (changed (debited (x .amount)) (x .debit) s)
   unfolding effect moved
   effect-move n q = rw (k, n, q)
 
-  pub uneffect-move : eqb (x .amount) 0 ≡ false → eqb (x .debit) (x .credit) ≡ false
+  pub uneffect-move : moves x ≡ true → eqb (x .debit) (x .credit) ≡ false
       → uneffect x s ≡ changed (undebited (x .amount)) (x .debit) (changed (uncredited (x .amount)) (x .credit) s)
   unfolding uneffect unmoved
   uneffect-move n q = rw (k, n, q)
@@ -166,7 +168,7 @@ module _ (x : Step) (s : List ℕ) (l : length s ≡ seatLong) where
   effect-length-by (sets k b) = ap length (effect-set x s k) ∙ changed-length (settled (x .given)) (x .account) s l b
   effect-length-by (rests k n) = ap length (effect-none x s k n) ∙ l
   effect-length-by (turns k n q b m) = ap length (effect-turn x s k n q) ∙ changed-length (turned (x .amount)) (x .debit) s l b
-  effect-length-by (moves k n q b c m) =
+  effect-length-by (transfers k n q b c m) =
       ap length (effect-move x s k n q)
       ∙ changed-length (credited (x .amount)) (x .credit) (changed (debited (x .amount)) (x .debit) s)
       (changed-length (debited (x .amount)) (x .debit) s l b) c
@@ -175,7 +177,7 @@ module _ (x : Step) (s : List ℕ) (l : length s ≡ seatLong) where
   effect-head-by (sets k b) = ap headOf (effect-set x s k) ∙ changed-head (settled (x .given)) (x .account) s l b
   effect-head-by (rests k n) = ap headOf (effect-none x s k n)
   effect-head-by (turns k n q b m) = ap headOf (effect-turn x s k n q) ∙ changed-head (turned (x .amount)) (x .debit) s l b
-  effect-head-by (moves k n q b c m) =
+  effect-head-by (transfers k n q b c m) =
       ap headOf (effect-move x s k n q)
       ∙ changed-head (credited (x .amount)) (x .credit) (changed (debited (x .amount)) (x .debit) s)
       (changed-length (debited (x .amount)) (x .debit) s l b) c
@@ -187,7 +189,7 @@ module _ (x : Step) (s : List ℕ) (l : length s ≡ seatLong) where
   effect-step-by p (rests k n) = ap (λ (t : List ℕ). stepOf t p) (effect-none x s k n)
   effect-step-by p (turns k n q b m) =
       ap (λ (t : List ℕ). stepOf t p) (effect-turn x s k n q) ∙ changed-step (turned (x .amount)) (x .debit) s l b p
-  effect-step-by p (moves k n q b c m) =
+  effect-step-by p (transfers k n q b c m) =
       ap (λ (t : List ℕ). stepOf t p) (effect-move x s k n q)
       ∙ changed-step (credited (x .amount)) (x .credit) (changed (debited (x .amount)) (x .debit) s)
       (changed-length (debited (x .amount)) (x .debit) s l b) c p
@@ -202,7 +204,7 @@ module _ (x : Step) (s : List ℕ) (l : length s ≡ seatLong) where
   effect-account-by j d (turns k n q b m) =
       ap (λ (t : List ℕ). accountOf t j) (effect-turn x s k n q)
       ∙ rw (k, n, q) (changed-account (turned (x .amount)) (x .debit) s l b j d)
-  effect-account-by j d (moves k n q b c m) =
+  effect-account-by j d (transfers k n q b c m) =
       ap (λ (t : List ℕ). accountOf t j) (effect-move x s k n q)
       ∙ changed-account (credited (x .amount)) (x .credit) (changed (debited (x .amount)) (x .debit) s)
       (changed-length (debited (x .amount)) (x .debit) s l b) c j d
@@ -214,7 +216,7 @@ module _ (x : Step) (s : List ℕ) (l : length s ≡ seatLong) where
   uneffect-length-by (sets k b) = ap length (uneffect-set x s k) ∙ changed-length (settled (x .old)) (x .account) s l b
   uneffect-length-by (rests k n) = ap length (uneffect-none x s k n) ∙ l
   uneffect-length-by (turns k n q b m) = ap length (uneffect-turn x s k n q) ∙ changed-length (unturned (x .amount)) (x .debit) s l b
-  uneffect-length-by (moves k n q b c m) =
+  uneffect-length-by (transfers k n q b c m) =
       ap length (uneffect-move x s k n q)
       ∙ changed-length (undebited (x .amount)) (x .debit) (changed (uncredited (x .amount)) (x .credit) s)
       (changed-length (uncredited (x .amount)) (x .credit) s l c) b
@@ -223,7 +225,7 @@ module _ (x : Step) (s : List ℕ) (l : length s ≡ seatLong) where
   uneffect-head-by (sets k b) = ap headOf (uneffect-set x s k) ∙ changed-head (settled (x .old)) (x .account) s l b
   uneffect-head-by (rests k n) = ap headOf (uneffect-none x s k n)
   uneffect-head-by (turns k n q b m) = ap headOf (uneffect-turn x s k n q) ∙ changed-head (unturned (x .amount)) (x .debit) s l b
-  uneffect-head-by (moves k n q b c m) =
+  uneffect-head-by (transfers k n q b c m) =
       ap headOf (uneffect-move x s k n q)
       ∙ changed-head (undebited (x .amount)) (x .debit) (changed (uncredited (x .amount)) (x .credit) s)
       (changed-length (uncredited (x .amount)) (x .credit) s l c) b
@@ -235,7 +237,7 @@ module _ (x : Step) (s : List ℕ) (l : length s ≡ seatLong) where
   uneffect-step-by p (rests k n) = ap (λ (t : List ℕ). stepOf t p) (uneffect-none x s k n)
   uneffect-step-by p (turns k n q b m) =
       ap (λ (t : List ℕ). stepOf t p) (uneffect-turn x s k n q) ∙ changed-step (unturned (x .amount)) (x .debit) s l b p
-  uneffect-step-by p (moves k n q b c m) =
+  uneffect-step-by p (transfers k n q b c m) =
       ap (λ (t : List ℕ). stepOf t p) (uneffect-move x s k n q)
       ∙ changed-step (undebited (x .amount)) (x .debit) (changed (uncredited (x .amount)) (x .credit) s)
       (changed-length (uncredited (x .amount)) (x .credit) s l c) b p
@@ -250,7 +252,7 @@ module _ (x : Step) (s : List ℕ) (l : length s ≡ seatLong) where
   uneffect-account-by j d (turns k n q b m) =
       ap (λ (t : List ℕ). accountOf t j) (uneffect-turn x s k n q)
       ∙ rw (k, n, q) (changed-account (unturned (x .amount)) (x .debit) s l b j d)
-  uneffect-account-by j d (moves k n q b c m) =
+  uneffect-account-by j d (transfers k n q b c m) =
       ap (λ (t : List ℕ). accountOf t j) (uneffect-move x s k n q)
       ∙ changed-account (undebited (x .amount)) (x .debit) (changed (uncredited (x .amount)) (x .credit) s)
       (changed-length (uncredited (x .amount)) (x .credit) s l c) b j d
@@ -271,7 +273,7 @@ after-opening x j a (turns k n q b m) = rw (k, n, q) (go (eqb (x .debit) j))
     go : (t : Bool) → cond t (turned (x .amount) a) a .opening ≡ a .opening
     go true = refl
     go false = refl
-after-opening x j a (moves k n q b c m) = rw (k, n, q) (go (eqb (x .credit) j) (eqb (x .debit) j))
+after-opening x j a (transfers k n q b c m) = rw (k, n, q) (go (eqb (x .credit) j) (eqb (x .debit) j))
   where
     go : (t u : Bool) → cond t (credited (x .amount) (cond u (debited (x .amount) a) a)) (cond u (debited (x .amount) a) a) .opening ≡ a .opening
     go true true = refl
@@ -307,53 +309,6 @@ module _ (x : Step) (s : List ℕ) (l : length s ≡ seatLong) (e : stepFits x �
 
   pub uneffect-account : (j : ℕ) → j < accounts → accountOf (uneffect x s) j ≡ before x j (accountOf s j)
   uneffect-account j d = uneffect-account-by x s l j d (sort x e)
-
-either-way : (t : Bool) (a : Account) → cond t a a ≡ a
-either-way true a = refl
-either-way false a = refl
-
--- the accounts behind a set, a movement of one account and a movement between two
-module _ (x : Step) (s : List ℕ) (l : length s ≡ seatLong) (e : stepFits x ≡ true) where
-  pub set-here : isKind setKind x ≡ true → accountOf (effect x s) (x .account) ≡ settled (x .given) (accountOf s (x .account))
-  set-here k =
-      ap (λ (t : List ℕ). accountOf t (x .account)) (effect-set x s k)
-      ∙ changed-here (settled (x .given)) (x .account) s l (set-account x e k)
-
-  pub set-other : isKind setKind x ≡ true → (j : ℕ) → j < accounts → (x .account ≡ j → ⊥) → accountOf (effect x s) j ≡ accountOf s j
-  set-other k j d apart =
-      ap (λ (t : List ℕ). accountOf t j) (effect-set x s k)
-      ∙ changed-other (settled (x .given)) (x .account) s l (set-account x e k) j d apart
-
-module _ (x : Step) (s : List ℕ) (l : length s ≡ seatLong) (e : stepFits x ≡ true) (k : isKind setKind x ≡ false)
-    (n : x .amount ≡ 0 → ⊥) where
-  pub turn-here : x .debit ≡ x .credit → accountOf (effect x s) (x .debit) ≡ turned (x .amount) (accountOf s (x .debit))
-  turn-here q =
-      ap (λ (t : List ℕ). accountOf t (x .debit)) (effect-turn x s k (ne-eqb (x .amount) 0 n) (eq-eqb (x .debit) (x .credit) q))
-      ∙ changed-here (turned (x .amount)) (x .debit) s l (moved-within x e k n .0)
-
-  pub move-debit : (x .debit ≡ x .credit → ⊥) → accountOf (effect x s) (x .debit) ≡ debited (x .amount) (accountOf s (x .debit))
-  move-debit q =
-      let within = moved-within x e k n in
-      ap (λ (t : List ℕ). accountOf t (x .debit)) (effect-move x s k (ne-eqb (x .amount) 0 n) (ne-eqb (x .debit) (x .credit) q))
-      ∙ changed-other (credited (x .amount)) (x .credit) (changed (debited (x .amount)) (x .debit) s)
-      (changed-length (debited (x .amount)) (x .debit) s l (within .0)) (within .1) (x .debit) (within .0)
-      (λ (same : x .credit ≡ x .debit). q (sym same))
-      ∙ changed-here (debited (x .amount)) (x .debit) s l (within .0)
-
-  pub move-credit : (x .debit ≡ x .credit → ⊥) → accountOf (effect x s) (x .credit) ≡ credited (x .amount) (accountOf s (x .credit))
-  move-credit q =
-      let within = moved-within x e k n in
-      ap (λ (t : List ℕ). accountOf t (x .credit)) (effect-move x s k (ne-eqb (x .amount) 0 n) (ne-eqb (x .debit) (x .credit) q))
-      ∙ changed-here (credited (x .amount)) (x .credit) (changed (debited (x .amount)) (x .debit) s)
-      (changed-length (debited (x .amount)) (x .debit) s l (within .0)) (within .1)
-      ∙ ap (credited (x .amount)) (changed-other (debited (x .amount)) (x .debit) s l (within .0) (x .credit) (within .1) q)
-
-  pub move-other : (j : ℕ) → j < accounts → (x .debit ≡ j → ⊥) → (x .credit ≡ j → ⊥) → accountOf (effect x s) j ≡ accountOf s j
-  unfolding after
-  move-other j d p q =
-      effect-account x s l e j d
-      ∙ rw (k, ne-eqb (x .amount) 0 n, ne-eqb (x .debit) j p, ne-eqb (x .credit) j q)
-      (either-way (eqb (x .debit) (x .credit)) (accountOf s j))
 
 -- the seat with one step more
 module _ (x : Step) (s : List ℕ) (l : length s ≡ seatLong) (e : stepFits x ≡ true) (b : headOf s .steps < steps) where

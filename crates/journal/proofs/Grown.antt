@@ -15,7 +15,7 @@ use Rattle.layout.specs.Seat.{accounts, seatLong, headOf, accountOf}
 use Rattle.journal.specs.Steps.{sumMost, amountMost, stepFits}
 use Rattle.journal.specs.Working.{settled, debited, credited, turned, stepped}
 use Rattle.journal.specs.Low.{Low}
-use Rattle.journal.proofs.Changed.{Sort, sets, rests, turns, moves, sort, after, stepped-length, stepped-account}
+use Rattle.journal.proofs.Changed.{Sort, sets, rests, turns, transfers, sort, after, stepped-length, stepped-account}
 
 pub record Grown (n : ℕ) (s : List ℕ) : Type 0 where
   pub long : length s ≡ seatLong
@@ -39,7 +39,7 @@ near x j a (turns k n q b m) = rw (k, n, q) (go (eqb (x .debit) j))
     go : (t : Bool) → Near a (cond t (turned (x .amount) a) a)
     go true = (omega arith, omega arith)
     go false = (omega arith, omega arith)
-near x j a (moves k n q b c m) = rw (k, n, q) (go (eqb (x .credit) j) (eqb (x .debit) j))
+near x j a (transfers k n q b c m) = rw (k, n, q) (go (eqb (x .credit) j) (eqb (x .debit) j))
   where
     go : (t u : Bool) → Near a (cond t (credited (x .amount) (cond u (debited (x .amount) a) a)) (cond u (debited (x .amount) a) a))
     go true true = (omega arith, omega arith)

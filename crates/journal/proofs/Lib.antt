@@ -3,6 +3,7 @@ pub mod Backed
 pub mod Changed
 pub mod Grown
 pub mod Moves
+pub mod ResultLaws
 pub mod Settings
 pub mod Settled
 pub mod StepLaws

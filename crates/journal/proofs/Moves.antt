@@ -15,7 +15,7 @@ use Rattle.layout.specs.declared.rows.Step.{Step}
 use Rattle.layout.specs.Seat.{accounts, headOf, withHead, accountOf, withAccount, stepOf, withStep}
 use Rattle.layout.proofs.Seats.{account-other}
 use Rattle.journal.specs.Low.{lowMost, Low}
-use Rattle.journal.specs.Steps.{setKind, sameSettings, stepFits, noStep}
+use Rattle.journal.specs.Steps.{setKind, moves, sameSettings, stepFits, noStep}
 use Rattle.journal.specs.Working.{
   settled,
   debited,
@@ -80,26 +80,26 @@ module _ (x : Step) (s : List ℕ) where
   unfolding effect changed
   sets t a r kind read now put = rw (eq-eqb (x .kind) setKind kind, put, now, read)
 
-  pub rests : (x .kind ≡ setKind → ⊥) → x .amount ≡ 0 → s ≡ effect x s
+  pub rests : (x .kind ≡ setKind → ⊥) → moves x ≡ false → s ≡ effect x s
   unfolding effect
-  rests kind none = rw (ne-eqb (x .kind) setKind kind, eq-eqb (x .amount) 0 none)
+  rests kind none = rw (ne-eqb (x .kind) setKind kind, none)
 
-  pub moves : (t : List ℕ) → (x .kind ≡ setKind → ⊥) → (x .amount ≡ 0 → ⊥) → t ≡ moved x s → t ≡ effect x s
+  pub transfers : (t : List ℕ) → (x .kind ≡ setKind → ⊥) → moves x ≡ true → t ≡ moved x s → t ≡ effect x s
   unfolding effect
-  moves t kind some e = rw (ne-eqb (x .kind) setKind kind, ne-eqb (x .amount) 0 some) e
+  transfers t kind some e = rw (ne-eqb (x .kind) setKind kind, some) e
 
   pub sets-back : (t : List ℕ) (a r : Account) → x .kind ≡ setKind → a ≡ accountOf s (x .account) → r ≡ settled (x .old) a
       → t ≡ withAccount s (x .account) r → t ≡ uneffect x s
   unfolding uneffect changed
   sets-back t a r kind read now put = rw (eq-eqb (x .kind) setKind kind, put, now, read)
 
-  pub rests-back : (x .kind ≡ setKind → ⊥) → x .amount ≡ 0 → s ≡ uneffect x s
+  pub rests-back : (x .kind ≡ setKind → ⊥) → moves x ≡ false → s ≡ uneffect x s
   unfolding uneffect
-  rests-back kind none = rw (ne-eqb (x .kind) setKind kind, eq-eqb (x .amount) 0 none)
+  rests-back kind none = rw (ne-eqb (x .kind) setKind kind, none)
 
-  pub moves-back : (t : List ℕ) → (x .kind ≡ setKind → ⊥) → (x .amount ≡ 0 → ⊥) → t ≡ unmoved x s → t ≡ uneffect x s
+  pub transfers-back : (t : List ℕ) → (x .kind ≡ setKind → ⊥) → moves x ≡ true → t ≡ unmoved x s → t ≡ uneffect x s
   unfolding uneffect
-  moves-back t kind some e = rw (ne-eqb (x .kind) setKind kind, ne-eqb (x .amount) 0 some) e
+  transfers-back t kind some e = rw (ne-eqb (x .kind) setKind kind, some) e
 
   -- whether it is covered
   pub covers-set : (b : Bool) (a : Account) → x .kind ≡ setKind → a ≡ accountOf s (x .account) → b ≡ sameSettings (x .old) (a .settings)
@@ -107,20 +107,19 @@ module _ (x : Step) (s : List ℕ) where
   unfolding covered
   covers-set b a kind read e = rw (eq-eqb (x .kind) setKind kind, e, read)
 
-  pub covers-none : (x .kind ≡ setKind → ⊥) → x .amount ≡ 0 → true ≡ covered x s
+  pub covers-none : (x .kind ≡ setKind → ⊥) → moves x ≡ false → true ≡ covered x s
   unfolding covered
-  covers-none kind none = rw (ne-eqb (x .kind) setKind kind, eq-eqb (x .amount) 0 none)
+  covers-none kind none = rw (ne-eqb (x .kind) setKind kind, none)
 
-  pub covers-one : (x .kind ≡ setKind → ⊥) → (x .amount ≡ 0 → ⊥) → x .debit ≡ x .credit → true ≡ covered x s
+  pub covers-one : (x .kind ≡ setKind → ⊥) → moves x ≡ true → x .debit ≡ x .credit → true ≡ covered x s
   unfolding covered
-  covers-one kind some same =
-      rw (ne-eqb (x .kind) setKind kind, ne-eqb (x .amount) 0 some, eq-eqb (x .debit) (x .credit) same)
+  covers-one kind some same = rw (ne-eqb (x .kind) setKind kind, some, eq-eqb (x .debit) (x .credit) same)
 
-  pub covers-two : (a : Account) → (x .kind ≡ setKind → ⊥) → (x .amount ≡ 0 → ⊥) → (x .debit ≡ x .credit → ⊥) → a ≡ accountOf s (x .debit)
+  pub covers-two : (a : Account) → (x .kind ≡ setKind → ⊥) → moves x ≡ true → (x .debit ≡ x .credit → ⊥) → a ≡ accountOf s (x .debit)
       → leb (x .amount) (a .balance) ≡ covered x s
   unfolding covered
   covers-two a kind some apart read =
-      rw (ne-eqb (x .kind) setKind kind, ne-eqb (x .amount) 0 some, ne-eqb (x .debit) (x .credit) apart, read)
+      rw (ne-eqb (x .kind) setKind kind, some, ne-eqb (x .debit) (x .credit) apart, read)
 
   -- whether it is possible
   pub unfit : stepFits x ≡ false → false ≡ possible x s

@@ -9,7 +9,7 @@ use Rattle.layout.specs.declared.rows.Step.{Step}
 use Rattle.journal.specs.Steps.{settingsFit, stepFits, noSettings}
 use Rattle.journal.specs.Working.{settled, debited, credited, turned}
 use Rattle.journal.proofs.StepLaws.{set-given}
-use Rattle.journal.proofs.Changed.{Sort, sets, rests, turns, moves, after}
+use Rattle.journal.proofs.Changed.{Sort, sets, rests, turns, transfers, after}
 
 -- settings stay, or are those that a set gives
 pub after-settings : (x : Step) (j : ℕ) (a : Account) → stepFits x ≡ true → settingsFit (a .settings) ≡ true → Sort x
@@ -26,7 +26,7 @@ after-settings x j a e p (turns k n q b m) = rw (k, n, q) (go (eqb (x .debit) j)
     go : (t : Bool) → settingsFit (cond t (turned (x .amount) a) a .settings) ≡ true
     go true = p
     go false = p
-after-settings x j a e p (moves k n q b c m) = rw (k, n, q) (go (eqb (x .credit) j) (eqb (x .debit) j))
+after-settings x j a e p (transfers k n q b c m) = rw (k, n, q) (go (eqb (x .credit) j) (eqb (x .debit) j))
   where
     go : (t u : Bool)
         → settingsFit (cond t (credited (x .amount) (cond u (debited (x .amount) a) a)) (cond u (debited (x .amount) a) a) .settings) ≡ true

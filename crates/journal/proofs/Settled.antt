@@ -31,6 +31,12 @@ use Rattle.journal.proofs.limits.turnover_shut.Kinds as turnover-shut-k
 use Rattle.journal.proofs.limits.turnover_shut.Reads as turnover-shut-reads
 use Rattle.journal.proofs.traces.earliest.Kinds as earliest-kinds
 use Rattle.journal.proofs.traces.earliest.Reads as earliest-reads
+use Rattle.journal.proofs.traces.is_there.Kinds as is-there-kinds
+use Rattle.journal.proofs.traces.is_there.Reads as is-there-reads
+use Rattle.journal.proofs.traces.is_known.Kinds as is-known-kinds
+use Rattle.journal.proofs.traces.is_known.Reads as is-known-reads
+use Rattle.journal.proofs.results.result_now.Kinds as result-now-kinds
+use Rattle.journal.proofs.results.result_now.Reads as result-now-reads
 
 pub no-settings : Settled _ no-settings-kinds.ps no-settings-kinds.r no-settings-reads.Post
 no-settings κs a x y e f = by-equation
@@ -70,3 +76,12 @@ turnover-shut κs a x y e f = by-equation
 
 pub earliest : Settled _ earliest-kinds.ps earliest-kinds.r earliest-reads.Post
 earliest κs a x y e f = by-equation
+
+pub is-there : Settled _ is-there-kinds.ps is-there-kinds.r is-there-reads.Post
+is-there κs a x y e f = by-equation
+
+pub is-known : Settled _ is-known-kinds.ps is-known-kinds.r is-known-reads.Post
+is-known κs a x y e f = by-equation
+
+pub result-now : Settled _ result-now-kinds.ps result-now-kinds.r result-now-reads.Post
+result-now κs a x y e f = by-equation

@@ -11,24 +11,25 @@ use lib.Seq.{take-all}
 use borrow.Author.Tests.{ltb-true, leb-true, eqb-true, eq-eqb}
 use Rattle.shape.specs.Bytes.{every}
 use Rattle.shape.specs.Dates.{isTime}
-use Rattle.shape.specs.Fields.{isIdentifier}
+use Rattle.shape.specs.Fields.{identifierMost, isIdentifier}
 use Rattle.shape.specs.Stored.{identifierOf, allBytes, identifierText, storedText, isUetr, uetrOf}
 use Rattle.shape.specs.declared.stored.Identifier.{Identifier}
 use Rattle.shape.specs.declared.stored.Text.{Text}
 use Rattle.shape.proofs.Tests.{and-left, and-right}
 use Rattle.shape.proofs.ReadBack.{identifier-back, identifier-same, text-short, text-front, stored-version, stored-variant}
-use Rattle.slip.specs.Meaning.{kindNumber, sayings, says}
+use Rattle.slip.specs.Meaning.{kindNumber}
 use Rattle.directory.specs.Directory.{codeMost}
 use Rattle.layout.specs.declared.rows.Settings.{Settings}
 use Rattle.layout.specs.declared.rows.Step.{Step}
 use Rattle.layout.specs.Seat.{accounts}
-use Rattle.journal.specs.Steps.{setKind, amountMost, settingsFit, sameSettings, isStored, isStoredUetr, noMessage, noMovement, noSet, setFits, isKind, carriedOut, between, movementFits, referenceFits, messageFits, stepFits, noStep}
+use Rattle.journal.specs.Results.{resultFits}
+use Rattle.journal.specs.Steps.{setKind, amountMost, settingsFit, sameSettings, isStored, isStoredUetr, noMessage, noMovement, noSet, setFits, isKind, moves, between, movementFits, referenceFits, messageFits, stepFits, noStep}
 
 -- the text that is handed on: at most 35 of its bytes are the identifier's, they stand in front, and are as many as it says
 module _ (t : Text) (x : Identifier) (e : t ≡ storedText x) where
-  pub text-most : t .length ≤ 35
+  pub text-most : t .length ≤ identifierMost
   unfolding storedText
-  text-most = subst (λ (u : Text). u .length ≤ 35) (sym e) (text-short x)
+  text-most = subst (λ (u : Text). u .length ≤ identifierMost) (sym e) (text-short x)
 
   pub text-fits : t .length ≤ length (t .bytes)
   unfolding storedText allBytes
@@ -42,12 +43,12 @@ module _ (t : Text) (x : Identifier) (e : t ≡ storedText x) where
   unfolding storedText
   text-long = ap (λ (u : Text). u .length) e ∙ ap length (sym text-part)
 
-  pub text-whole : length (t .bytes) ≡ 35
+  pub text-whole : length (t .bytes) ≡ identifierMost
   unfolding storedText allBytes
   text-whole = ap (λ (u : Text). length (u .bytes)) e
 
   -- what stands behind it
-  pub text-behind : (m : ℕ) → 35 ≤ t .length + m
+  pub text-behind : (m : ℕ) → identifierMost ≤ t .length + m
       → (f : ℕ → Bool) → every f (take m (drop (t .length) (t .bytes))) ≡ true → every f (drop (length (identifierText x)) (allBytes x)) ≡ true
   unfolding storedText
   text-behind m h f z =
@@ -66,7 +67,7 @@ uetr-fits s e = rw (stored-version s e, stored-variant s e)
 
 -- no step is none that fits
 pub no-step-unfit : stepFits noStep ≡ false
-unfolding stepFits messageFits sayings kindNumber
+unfolding stepFits messageFits resultFits kindNumber
 no-step-unfit = refl
 
 -- a set that fits, part by part
@@ -95,7 +96,7 @@ set-given x e k = and-right (noMessage x && noMovement x && ltb (x .account) acc
 movement-fits : (x : Step) → stepFits x ≡ true → isKind setKind x ≡ false → movementFits x ≡ true
 unfolding stepFits messageFits
 movement-fits x e k =
-    let front = says (x .kind) (x .status) (x .check) && leb (x .sender) codeMost && isStored (x .id) && isStoredUetr (x .uetr) && isTime (x .created) && referenceFits x in
+    let front = resultFits (x .kind) (x .status) (x .check) && leb (x .sender) codeMost && isStored (x .id) && isStoredUetr (x .uetr) && isTime (x .created) && referenceFits x in
     let h = subst (λ (t : Bool). cond t (setFits x) (messageFits x) ≡ true) k e in
     and-right front (movementFits x) (and-left (front && movementFits x) (noSet x) h)
 
@@ -106,19 +107,15 @@ three-hold least most debit credit rest e =
     let three = and-left (least && most && debit) credit four in
     (and-right (least && most) debit three, and-right (least && most && debit) credit four, and-right least most (and-left (least && most) debit three))
 
--- where an amount was moved, it and both accounts are in range
-pub moved-within : (x : Step) → stepFits x ≡ true → isKind setKind x ≡ false → (x .amount ≡ 0 → ⊥)
+-- where a step moves money, the amount and both accounts are in range
+pub moved-within : (x : Step) → stepFits x ≡ true → isKind setKind x ≡ false → moves x ≡ true
     → (x .debit < accounts) × (x .credit < accounts) × (x .amount ≤ amountMost)
-unfolding movementFits noMovement
-moved-within x e k n = go (carriedOut x) (movement-fits x e k)
-  where
-    go : (t : Bool)
-        → cond t (leb 1 (x .amount) && leb (x .amount) amountMost && ltb (x .debit) accounts && ltb (x .credit) accounts && between x) (noMovement x) ≡ true
-        → (x .debit < accounts) × (x .credit < accounts) × (x .amount ≤ amountMost)
-    go true h =
-        let p = three-hold (leb 1 (x .amount)) (leb (x .amount) amountMost) (ltb (x .debit) accounts) (ltb (x .credit) accounts) (between x) h in
-        (ltb-true (x .debit) accounts (p .0), ltb-true (x .credit) accounts (p .1), leb-true (x .amount) amountMost (p .2))
-    go false h = absurd (n (eqb-true (x .amount) 0 (and-right (eqb (x .debit) 0 && eqb (x .credit) 0) (eqb (x .amount) 0) h)))
+unfolding movementFits
+moved-within x e k n =
+    let within : Bool = leb 1 (x .amount) && leb (x .amount) amountMost && ltb (x .debit) accounts && ltb (x .credit) accounts && between x in
+    let h : within ≡ true = subst (λ (t : Bool). cond t within (noMovement x) ≡ true) n (movement-fits x e k) in
+    let p = three-hold (leb 1 (x .amount)) (leb (x .amount) amountMost) (ltb (x .debit) accounts) (ltb (x .credit) accounts) (between x) h in
+    (ltb-true (x .debit) accounts (p .0), ltb-true (x .credit) accounts (p .1), leb-true (x .amount) amountMost (p .2))
 
 -- the same numbers are the same settings
 pub same-settings : (x y : Settings) → sameSettings x y ≡ true → x ≡ y

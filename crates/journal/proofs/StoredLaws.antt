@@ -15,7 +15,7 @@ use Rattle.shape.specs.Stored.{sevenFrom, identifierOf, sameIdentifier, beforeZ
 use Rattle.shape.specs.declared.stored.Identifier.{Identifier}
 use Rattle.shape.proofs.Bits.{joined-cut}
 use Rattle.shape.proofs.Tests.{and-left, and-right}
-use Rattle.journal.specs.Steps.{isStored}
+use Rattle.journal.specs.Steps.{sevenMost, isStored}
 
 abbrev pub isZero : ℕ → Bool
 isZero b = eqb b 0
@@ -70,7 +70,8 @@ module _ (x : Identifier) where
   -- where nothing stands above seven bytes nor behind the text, these very numbers are stored
   module _
       (e : isIdentifier (identifierText x) ≡ true)
-      (low : (leb (x .first) 72057594037927935 && leb (x .second) 72057594037927935 && leb (x .third) 72057594037927935 && leb (x .fourth) 72057594037927935 && leb (x .fifth) 72057594037927935) ≡ true)
+      (low : (leb (x .first) sevenMost && leb (x .second) sevenMost && leb (x .third) sevenMost && leb (x .fourth) sevenMost
+      && leb (x .fifth) sevenMost) ≡ true)
       (empty : every isZero (drop (length (identifierText x)) (allBytes x)) ≡ true)
     where
       at : (i n : ℕ) → sevenFrom (allBytes x) i ≡ n → sevenFrom (identifierText x) i ≡ n
@@ -79,19 +80,19 @@ module _ (x : Identifier) where
 
       lows : (x .first < 2 ^ 56) × (x .second < 2 ^ 56) × (x .third < 2 ^ 56) × (x .fourth < 2 ^ 56) × (x .fifth < 2 ^ 56)
       lows =
-          let first = leb (x .first) 72057594037927935 in
-          let second = leb (x .second) 72057594037927935 in
-          let third = leb (x .third) 72057594037927935 in
-          let fourth = leb (x .fourth) 72057594037927935 in
-          let fifth = leb (x .fifth) 72057594037927935 in
+          let first = leb (x .first) sevenMost in
+          let second = leb (x .second) sevenMost in
+          let third = leb (x .third) sevenMost in
+          let fourth = leb (x .fourth) sevenMost in
+          let fifth = leb (x .fifth) sevenMost in
           let four = and-left (first && second && third && fourth) fifth low in
           let three = and-left (first && second && third) fourth four in
           let two = and-left (first && second) third three in (
-            omega (arith, leb-true (x .first) 72057594037927935 (and-left first second two)),
-            omega (arith, leb-true (x .second) 72057594037927935 (and-right first second two)),
-            omega (arith, leb-true (x .third) 72057594037927935 (and-right (first && second) third three)),
-            omega (arith, leb-true (x .fourth) 72057594037927935 (and-right (first && second && third) fourth four)),
-            omega (arith, leb-true (x .fifth) 72057594037927935 (and-right (first && second && third && fourth) fifth low)),
+            omega (arith, leb-true (x .first) sevenMost (and-left first second two)),
+            omega (arith, leb-true (x .second) sevenMost (and-right first second two)),
+            omega (arith, leb-true (x .third) sevenMost (and-right (first && second) third three)),
+            omega (arith, leb-true (x .fourth) sevenMost (and-right (first && second && third) fourth four)),
+            omega (arith, leb-true (x .fifth) sevenMost (and-right (first && second && third && fourth) fifth low)),
           )
 
       kept : identifierOf (identifierText x) ≡ x

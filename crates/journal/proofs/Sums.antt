@@ -20,7 +20,7 @@ use Rattle.journal.proofs.Changed.{
   sets,
   rests,
   turns,
-  moves,
+  transfers,
   sort,
   changed-length,
   changed-here,
@@ -110,7 +110,7 @@ effect-sum x s l p (rests k n) = ap (λ (t : List ℕ). balancesFrom t 0 account
 effect-sum x s l p (turns k n q b m) =
     ap (λ (t : List ℕ). balancesFrom t 0 accounts) (effect-turn x s k n q)
     ∙ kept-sum (turned (x .amount)) (x .debit) s l b (λ (a : Account). refl)
-effect-sum x s l p (moves k n q b c m) =
+effect-sum x s l p (transfers k n q b c m) =
     let out : List ℕ = changed (debited (x .amount)) (x .debit) s in
     let long : length out ≡ seatLong = changed-length (debited (x .amount)) (x .debit) s l b in
     let most : x .amount ≤ accountOf s (x .debit) .balance = possible-debit x s p k n q in

@@ -1,7 +1,7 @@
 -- What a step of the journal can be, by itself: document 01, "Room, seats, directory" ("ranges are right") and what a step stores. What its kind
 -- lacks is zero; a movement stands exactly where a transfer was carried out, settings exactly in a set.
 use mathlib.Core.Bool.{Bool, not, _&&_, _||_, cond}
-use Prim.Native.Nat.{ℕ, _+_, _/_, _%_, _^_}
+use Prim.Native.Nat.{ℕ, _+_, _-_, _/_, _%_, _^_}
 use lib.Dec.{leb, ltb, eqb}
 use Rattle.shape.specs.Dates.{isTime}
 use Rattle.shape.specs.Fields.{isIdentifier}
@@ -9,14 +9,15 @@ use Rattle.shape.specs.Stored.{identifierOf, identifierText, sameIdentifier}
 use Rattle.shape.specs.declared.stored.Identifier.{Identifier}
 use Rattle.shape.specs.declared.stored.Uetr.{Uetr}
 use Rattle.table.specs.declared.Kind.the-variants.{Pacs008, Camt050}
-use Rattle.slip.specs.Meaning.{kindNumber, statusNumber, says}
+use Rattle.slip.specs.Meaning.{kindNumber, statusNumber}
 use Rattle.slip.specs.declared.Status.the-variants.{Accc}
 use Rattle.directory.specs.Directory.{codeMost}
 use Rattle.layout.specs.declared.rows.Settings.{Settings}
 use Rattle.layout.specs.declared.rows.Step.{Step}
 use Rattle.layout.specs.Seat.{accounts}
+use Rattle.journal.specs.Results.{resultFits}
 
--- a set is a step of its own kind, behind the three kinds of messages
+-- a set is a step of its own kind, by a number of the journal's own: no slip has it
 abbrev pub setKind : ℕ
 setKind = 4
 
@@ -40,13 +41,17 @@ noSettings = record { out = 0; into = 0; ltk = 0; lpo = 0 }
 abbrev pub noIdentifier : Identifier
 noIdentifier = record { first = 0; second = 0; third = 0; fourth = 0; fifth = 0 }
 
+-- the highest number of seven bytes, which a stored identifier has at most in each of its numbers
+abbrev pub sevenMost : ℕ
+sevenMost = 2 ^ 56 - 1
+
 -- the numbers are what an identifier is stored as, 1 to 35 text bytes with zeros behind them
 unfoldable pub isStored : Identifier → Bool
 isStored x = isIdentifier (identifierText x) && sameIdentifier (identifierOf (identifierText x)) x
 
 -- the numbers are what a UETR is stored as: the version's digit is 4, the variant's 8 to b
 unfoldable pub isStoredUetr : Uetr → Bool
-isStoredUetr x = eqb (x .high / 4096 % 16) 4 && eqb (x .low / 2 ^ 62) 2
+isStoredUetr x = eqb (x .high / 2 ^ 12 % 16) 4 && eqb (x .low / 2 ^ 62) 2
 
 unfoldable pub noMessage : Step → Bool
 noMessage x =
@@ -68,9 +73,9 @@ setFits x = noMessage x && noMovement x && ltb (x .account) accounts && settings
 abbrev pub isKind : ℕ → Step → Bool
 isKind kind x = eqb (x .kind) kind
 
--- a transfer that was carried out
-unfoldable pub carriedOut : Step → Bool
-carriedOut x = eqb (x .status) (statusNumber Accc) && (isKind (kindNumber Pacs008) x || isKind (kindNumber Camt050) x)
+-- a step moves money where it is a transfer that was carried out; an amount alone moves none
+unfoldable pub moves : Step → Bool
+moves x = eqb (x .status) (statusNumber Accc) && (isKind (kindNumber Pacs008) x || isKind (kindNumber Camt050) x)
 
 -- camt.050 moves between the two accounts of one place, pacs.008 between accounts 2
 unfoldable pub between : Step → Bool
@@ -81,7 +86,7 @@ between x =
 
 unfoldable pub movementFits : Step → Bool
 movementFits x =
-    cond (carriedOut x)
+    cond (moves x)
     (leb 1 (x .amount) && leb (x .amount) amountMost && ltb (x .debit) accounts && ltb (x .credit) accounts && between x)
     (noMovement x)
 
@@ -92,7 +97,7 @@ referenceFits x = cond (isKind (kindNumber Camt050) x) (sameIdentifier (x .refer
 -- a message has a result that is possible for its kind
 unfoldable pub messageFits : Step → Bool
 messageFits x =
-    says (x .kind) (x .status) (x .check) && leb (x .sender) codeMost
+    resultFits (x .kind) (x .status) (x .check) && leb (x .sender) codeMost
     && isStored (x .id) && isStoredUetr (x .uetr) && isTime (x .created)
     && referenceFits x && movementFits x && noSet x
 

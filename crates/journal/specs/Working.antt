@@ -1,6 +1,6 @@
 -- Working forward: what a step does to a seat, when it is possible there, and what taking the last step back does. Document 01, "Room, seats,
 -- directory" and "Calls and refusals".
-use mathlib.Core.Bool.{Bool, _&&_, _||_, cond}
+use mathlib.Core.Bool.{Bool, not, _&&_, _||_, cond}
 use mathlib.Core.List.{List, [], _∷_}
 use mathlib.Core.Option.{Option, none, some}
 use Prim.Native.Nat.{ℕ, zero, suc, _+_, _-_}
@@ -10,7 +10,7 @@ use Rattle.layout.specs.declared.rows.Settings.{Settings}
 use Rattle.layout.specs.declared.rows.Account.{Account}
 use Rattle.layout.specs.declared.rows.Step.{Step}
 use Rattle.layout.specs.Seat.{headOf, withHead, accountOf, withAccount, stepOf, withStep}
-use Rattle.journal.specs.Steps.{setKind, isKind, sameSettings, stepFits, noStep}
+use Rattle.journal.specs.Steps.{setKind, isKind, moves, sameSettings, stepFits, noStep}
 
 -- an account with other settings; with money taken out, which counts as turnover, or put in; or both, where the balance stays
 abbrev pub settled : Settings → Account → Account
@@ -50,16 +50,16 @@ unmoved x s =
     cond (eqb (x .debit) (x .credit)) (changed (unturned (x .amount)) (x .debit) s)
     (changed (undebited (x .amount)) (x .debit) (changed (uncredited (x .amount)) (x .credit) s))
 
--- what a step does to the accounts: a set gives its settings, a transfer that was carried out moves its amount, anything else does nothing
+-- what a step does to the accounts: a set gives its settings, a step that moves money moves its amount, anything else does nothing
 unfoldable pub effect : Step → List ℕ → List ℕ
 effect x s =
     cond (isKind setKind x) (changed (settled (x .given)) (x .account) s)
-    (cond (eqb (x .amount) 0) s (moved x s))
+    (cond (moves x) (moved x s) s)
 
 unfoldable pub uneffect : Step → List ℕ → List ℕ
 uneffect x s =
     cond (isKind setKind x) (changed (settled (x .old)) (x .account) s)
-    (cond (eqb (x .amount) 0) s (unmoved x s))
+    (cond (moves x) (unmoved x s) s)
 
 abbrev pub counting : ℕ → Head → Head
 counting n h = record { opening = h .opening; opened = h .opened; steps = n }
@@ -81,7 +81,7 @@ backed s = withHead (withStep (uneffect (lastStep s) s) (headOf s .steps - 1) no
 unfoldable pub covered : Step → List ℕ → Bool
 covered x s =
     cond (isKind setKind x) (sameSettings (x .old) (accountOf s (x .account) .settings))
-    (eqb (x .amount) 0 || eqb (x .debit) (x .credit) || leb (x .amount) (accountOf s (x .debit) .balance))
+    (not (moves x) || eqb (x .debit) (x .credit) || leb (x .amount) (accountOf s (x .debit) .balance))
 
 unfoldable pub possible : Step → List ℕ → Bool
 possible x s = stepFits x && covered x s

@@ -1,9 +1,10 @@
 // The steps of a journal: what a step can be, what it does to the accounts, when it is possible, taking the last one back, the first step that
 // leaves a trace, and what an account's blocks and limits leave. Document 01, "Room, seats, directory" and "The checks".
-// It knows nothing of when a seat is fit, nor of calls and messages. Steps stand in `specs/Steps.antt`, what they do in `specs/Working.antt`,
-// traces in `specs/Traces.antt`, blocks and limits in `specs/Limits.antt`, and that sums fit their types in `specs/Low.antt`.
+// It knows nothing of when a seat is fit, nor of calls and messages. Steps stand in `specs/Steps.antt`, how they end in `specs/Results.antt`, what
+// they do in `specs/Working.antt`, traces in `specs/Traces.antt`, blocks and limits in `specs/Limits.antt`, and that sums fit their types in `specs/Low.antt`.
 
 mod limits;
+mod results;
 mod steps;
 mod traces;
 mod working;
@@ -13,6 +14,9 @@ pub use limits::blocked_into;
 pub use limits::blocked_out;
 pub use limits::turnover_above;
 pub use limits::turnover_shut;
+pub use results::ACCC;
+pub use results::Outcome;
+pub use results::result_now;
 pub use steps::SET;
 pub use steps::SUM_MOST;
 pub use steps::no_identifier;
@@ -22,6 +26,8 @@ pub use steps::step_fits;
 pub use traces::Earlier;
 pub use traces::Trace;
 pub use traces::earliest;
+pub use traces::is_known;
+pub use traces::is_there;
 pub use working::append;
 pub use working::drop_last;
 pub use working::is_possible;

@@ -1,26 +1,31 @@
 // What a step of the journal can be, by itself. The rules stand in `specs/Steps.antt`, one definition for each function.
+use crate::results::ACCC;
+use crate::results::result_fits;
 use directory::CODE_MOST;
+use layout::ACCOUNTS;
 use layout::rows::Settings;
 use layout::rows::Step;
 use shape::date::is_time;
+use shape::field::IDENTIFIER_MOST;
 use shape::field::is_identifier;
 use shape::stored::Identifier;
 use shape::stored::Uetr;
 use shape::stored::identifier_of;
 use shape::stored::same_identifier;
 use shape::stored::text_of;
-use slip::can_say;
 ghost use mathlib.Core.Path.{_≡_};
 ghost use mathlib.Core.Bool.{_&&_};
 ghost use Prim.Native.Nat.{ℕ};
 ghost use lib.Dec.{leb, eqb};
 ghost use Rattle.shape.specs.Bytes.{every};
-ghost use Rattle.journal.specs.Steps.{settingsFit, sameSettings, noSettings, noIdentifier, isStored, isStoredUetr, noMessage, noMovement, noSet, setFits, carriedOut, between, movementFits, referenceFits, messageFits, stepFits, noStep};
+ghost use Rattle.journal.specs.Steps.{sevenMost, settingsFit, sameSettings, noSettings, noIdentifier, isStored, isStoredUetr, noMessage, noMovement, noSet, setFits, moves, between, movementFits, referenceFits, messageFits, stepFits, noStep};
 
-// The kinds of steps by number.
+// The kinds of steps by number: messages as on their slips, a set by a number of the journal's own.
 pub const PACS_008: u64 = 1;
 
 pub const CAMT_050: u64 = 2;
+
+pub const PACS_028: u64 = 3;
 
 pub const SET: u64 = 4;
 
@@ -30,7 +35,7 @@ pub const SUM_MOST: u64 = 1000000000000000;
 pub const AMOUNT_MOST: u64 = 9999999999999;
 
 // The highest number of seven bytes.
-const SEVEN_MOST: u64 = 72057594037927935;
+const SEVEN_MOST: u64 = (1 << 56) - 1;
 
 pub fn no_settings() -> Settings
     ensures { λ r. ⌜ r ≡ noSettings ⌝ }
@@ -105,7 +110,7 @@ fn all_zeros(s: &[u8]) -> bool
 
 // Whether each number has seven bytes.
 fn is_low(x: Identifier) -> bool
-    ensures { λ r. ⌜ r ≡ (leb (x .first) 72057594037927935 && leb (x .second) 72057594037927935 && leb (x .third) 72057594037927935 && leb (x .fourth) 72057594037927935 && leb (x .fifth) 72057594037927935) ⌝ }
+    ensures { λ r. ⌜ r ≡ (leb (x .first) sevenMost && leb (x .second) sevenMost && leb (x .third) sevenMost && leb (x .fourth) sevenMost && leb (x .fifth) sevenMost) ⌝ }
 {
     (x.first <= SEVEN_MOST)
         & (x.second <= SEVEN_MOST)
@@ -122,7 +127,7 @@ fn is_stored(x: Identifier) -> bool
     let text = text_of(x);
     let bytes = text.bytes;
     let length = text.length;
-    if 35 < length {
+    if IDENTIFIER_MOST < length {
         return false;
     }
     if !is_identifier(&bytes[..length]) {
@@ -138,7 +143,7 @@ fn is_stored(x: Identifier) -> bool
 fn is_stored_uetr(x: Uetr) -> bool
     ensures { λ r. ⌜ r ≡ isStoredUetr x ⌝ }
 {
-    (x.high / 4096 % 16 == 4) & (x.low / 4611686018427387904 == 2)
+    ((x.high >> 12) % 16 == 4) & (x.low >> 62 == 2)
 }
 
 fn no_message(x: Step) -> bool
@@ -169,14 +174,18 @@ fn no_set(x: Step) -> bool
 fn set_fits(x: Step) -> bool
     ensures { λ r. ⌜ r ≡ setFits x ⌝ }
 {
-    no_message(x) & no_movement(x) & (x.account < 32) & settings_fit(x.old) & settings_fit(x.given)
+    no_message(x)
+        & no_movement(x)
+        & (x.account < ACCOUNTS as u64)
+        & settings_fit(x.old)
+        & settings_fit(x.given)
 }
 
-// Whether the step is a transfer that was carried out.
-fn carried_out(x: Step) -> bool
-    ensures { λ r. ⌜ r ≡ carriedOut x ⌝ }
+// Whether a step moves money: it is a transfer that was carried out.
+pub fn moves(x: Step) -> bool
+    ensures { λ r. ⌜ r ≡ moves x ⌝ }
 {
-    (x.status == 1) & ((x.kind == PACS_008) | (x.kind == CAMT_050))
+    (x.status == ACCC) & ((x.kind == PACS_008) | (x.kind == CAMT_050))
 }
 
 // Whether the accounts of a movement are such as its kind moves between.
@@ -192,11 +201,11 @@ fn is_between(x: Step) -> bool
 fn movement_fits(x: Step) -> bool
     ensures { λ r. ⌜ r ≡ movementFits x ⌝ }
 {
-    if carried_out(x) {
+    if moves(x) {
         return (1 <= x.amount)
             & (x.amount <= AMOUNT_MOST)
-            & (x.debit < 32)
-            & (x.credit < 32)
+            & (x.debit < ACCOUNTS as u64)
+            & (x.credit < ACCOUNTS as u64)
             & is_between(x);
     }
     no_movement(x)
@@ -214,7 +223,7 @@ fn reference_fits(x: Step) -> bool
 fn message_fits(x: Step) -> bool
     ensures { λ r. ⌜ r ≡ messageFits x ⌝ }
 {
-    can_say(x.kind, x.status, x.check)
+    result_fits(x.kind, x.status, x.check)
         & (x.sender <= CODE_MOST)
         & is_stored(x.id)
         & is_stored_uetr(x.uetr)

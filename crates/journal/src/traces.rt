@@ -1,4 +1,4 @@
-// Earlier steps: the first one in a journal that leaves the trace that is looked for. The rules stand in `specs/Traces.antt`.
+// Earlier steps: the first one in a journal that leaves the trace that is looked for, with its place. The rules stand in `specs/Traces.antt`.
 use crate::steps::CAMT_050;
 use crate::steps::PACS_008;
 use crate::steps::SET;
@@ -14,7 +14,7 @@ ghost use Prim.Native.Nat.{_≤_};
 ghost use lib.ListN.{length};
 ghost use Rattle.slip.specs.Meaning.{steps};
 ghost use Rattle.layout.specs.Seat.{seatLong, headOf};
-ghost use Rattle.journal.specs.Traces.{leaves, earliest};
+ghost use Rattle.journal.specs.Traces.{leaves, earliest, isThere, isKnown};
 
 // What is looked for: a message with a MsgId, a pacs.008 with it, a pacs.008 or camt.050 with a UETR.
 pub enum Trace {
@@ -23,9 +23,9 @@ pub enum Trace {
     Transfer(Uetr),
 }
 
-// The step that was found, or that there is none.
+// The step that was found with its place in the journal, from 0 on, or that there is none.
 pub enum Earlier {
-    Of(Step),
+    Of(usize, Step),
     None,
 }
 
@@ -53,9 +53,26 @@ pub fn earliest(s: &[u64], trace: Trace) -> Earlier
     while k < count {
         let x = step(s, k);
         if leaves(trace, x) {
-            return Earlier::Of(x);
+            return Earlier::Of(k, x);
         }
         k += 1;
     }
     Earlier::None
+}
+
+pub fn is_there(x: Earlier) -> bool
+    ensures { λ r. ⌜ r ≡ isThere x ⌝ }
+{
+    match x {
+        Earlier::Of(_place, _step) => true,
+        Earlier::None => false,
+    }
+}
+
+// Whether a pacs.008 with a MsgId is known.
+pub fn is_known(s: &[u64], id: Identifier) -> bool
+    requires { ⌜ (length (now s) ≡ seatLong) × (headOf (now s) .steps ≤ steps) ⌝ }
+    ensures { λ r. ⌜ r ≡ isKnown id (now (s .entry)) ⌝ }
+{
+    is_there(earliest(s, Trace::Payment(id)))
 }

@@ -1,5 +1,6 @@
 // What a step does to a seat, when it is possible there, and taking the last step back. The rules stand in `specs/Working.antt`.
 use crate::steps::SET;
+use crate::steps::moves;
 use crate::steps::no_step;
 use crate::steps::same_settings;
 use crate::steps::step_fits;
@@ -149,7 +150,7 @@ fn do_effect(s: &mut [u64], x: Step)
         put_account(s, i, with_settings(a, x.given));
         return;
     }
-    if x.amount == 0 {
+    if !moves(x) {
         return;
     }
     move_money(s, x);
@@ -166,7 +167,7 @@ fn undo_effect(s: &mut [u64], x: Step)
         put_account(s, i, with_settings(a, x.old));
         return;
     }
-    if x.amount == 0 {
+    if !moves(x) {
         return;
     }
     move_back(s, x);
@@ -219,7 +220,7 @@ fn is_covered(s: &[u64], x: Step) -> bool
         let a = account(s, x.account as usize);
         return same_settings(x.old, a.settings);
     }
-    if x.amount == 0 {
+    if !moves(x) {
         return true;
     }
     if x.debit == x.credit {

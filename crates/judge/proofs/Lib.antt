@@ -1,4 +1,5 @@
 pub mod Asking
+pub mod Ends
 pub mod Holders
 pub mod Looking
 pub mod Lookups
@@ -7,6 +8,5 @@ pub mod Orders
 pub mod Passed
 pub mod Places
 pub mod Possible
-pub mod Says
 pub mod Settled
 pub mod Verdicts

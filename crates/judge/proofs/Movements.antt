@@ -21,6 +21,7 @@ use Rattle.seat.specs.Calls.{accountFound}
 use Rattle.judge.specs.declared.case.Case.{Case}
 use Rattle.judge.specs.declared.case.Movement.{Movement}
 use Rattle.judge.specs.Case.{Arises, debitOwner, creditOwner, accountOn}
+use Rattle.judge.specs.Rows.{movementIn}
 use Rattle.judge.specs.Verdict.{verdict}
 use Rattle.judge.proofs.Holders.{apart, Holds, holds, bank-holds, seconds-apart, out-of-first, out-of-second}
 use Rattle.judge.proofs.Passed.{source-is, instructed-is, debit-is, credit-is, amount-range, moves-as, sender-bank, from-sender, instructed-bank, sender-owner, credit-own, debit-own, digits-right}
@@ -38,8 +39,8 @@ pub record Movable (kind : Kind) (m : Movement) : Type 0 where
   pub most : m .amount ≤ amountMost
 
 -- a pacs.008 moves between accounts 2 of the owners whose accounts its two agents use
-pub payment-moves : (c : Case) (s : List ℕ) → Arises c → verdict c s ≡ 0 → c .message .kind ≡ Pacs008 → Movable Pacs008 (c .movement)
-unfolding debitOwner creditOwner accountOn
+pub payment-moves : (c : Case) (s : List ℕ) → Arises c → verdict c s ≡ 0 → c .message .kind ≡ Pacs008 → Movable Pacs008 (movementIn c s)
+unfolding movementIn debitOwner creditOwner accountOn
 payment-moves c s a none same = record {
   debit = 2 * from .place + 1;
   credit = 2 * to .place + 1;
@@ -67,8 +68,8 @@ payment-moves c s a none same = record {
     range = amount-range c a (moves-as c a Pacs008 same)
 
 -- a camt.050 moves between the two accounts of its sender, either way
-pub transfer-moves : (c : Case) (s : List ℕ) → Arises c → verdict c s ≡ 0 → c .message .kind ≡ Camt050 → Movable Camt050 (c .movement)
-unfolding debitOwner creditOwner accountOn
+pub transfer-moves : (c : Case) (s : List ℕ) → Arises c → verdict c s ≡ 0 → c .message .kind ≡ Camt050 → Movable Camt050 (movementIn c s)
+unfolding movementIn debitOwner creditOwner accountOn
 transfer-moves c s a none same =
     let first : 2 * own .place < accounts = omega (arith, own .low) in
     let second : 2 * own .place + 1 < accounts = omega (arith, own .low) in

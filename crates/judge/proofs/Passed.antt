@@ -32,7 +32,7 @@ use Rattle.judge.specs.declared.money.Holding.{Holding}
 use Rattle.judge.specs.declared.money.Holding.the-variants as holding
 use Rattle.judge.specs.Values.{agree, orZero}
 use Rattle.judge.specs.Case.{Arises, debitOwner, creditOwner, accountOn, movementOf, caseOf}
-use Rattle.judge.specs.Rows.{senderUnlisted, senderIndirect, senderNoOwner, notFromSender, creditorAnothers, debtorAnothers, digitsWrong, instructedNoBank, accountAt, shows, moneyShort}
+use Rattle.judge.specs.Rows.{senderUnlisted, senderIndirect, senderNoOwner, notFromSender, creditorAnothers, debtorAnothers, digitsWrong, instructedNoBank, movementIn, accountAt, shows, moneyShort}
 use Rattle.judge.specs.Verdict.{fails, rowsOf, verdict}
 use Rattle.judge.proofs.Verdicts.{none-fails}
 
@@ -148,12 +148,12 @@ module _ (c : Case) (s : List ℕ) (none : verdict c s ≡ 0) where
         (passed Camt050 same 15 refl)
 
   -- the debited account covers the amount
-  pub money-there : (kind : Kind) → c .message .kind ≡ kind → runs kind 22 ≡ true → (i : ℕ) → c .movement .debit ≡ Of i → i < accounts
-      → c .movement .amount ≤ accountOf s i .balance
+  pub money-there : (kind : Kind) → c .message .kind ≡ kind → runs kind 22 ≡ true → (i : ℕ) → movementIn c s .debit ≡ Of i → i < accounts
+      → movementIn c s .amount ≤ accountOf s i .balance
   unfolding fails rowsOf moneyShort shows accountAt
   money-there kind same r i e low =
-      available-covers (accountOf s i) (c .movement .amount)
-      (subst (λ (h : Holding). shows (λ (x : Account). availableBelow x (c .movement .amount)) h ≡ false) held (passed kind same 22 r))
+      available-covers (accountOf s i) (movementIn c s .amount)
+      (subst (λ (h : Holding). shows (λ (x : Account). availableBelow x (movementIn c s .amount)) h ≡ false) held (passed kind same 22 r))
     where
-      held : accountAt (c .movement .debit) s ≡ holding.Of (accountOf s i)
+      held : accountAt (movementIn c s .debit) s ≡ holding.Of (accountOf s i)
       held = rw (e, lt-ltb i accounts low)

@@ -18,6 +18,8 @@ use Rattle.judge.proofs.order.fails.Kinds as fails-kinds
 use Rattle.judge.proofs.order.fails.Reads as fails-reads
 use Rattle.judge.proofs.order.first_failing.Kinds as first-failing-kinds
 use Rattle.judge.proofs.order.first_failing.Reads as first-failing-reads
+use Rattle.judge.proofs.money.movement_in.Kinds as movement-in-kinds
+use Rattle.judge.proofs.money.movement_in.Reads as movement-in-reads
 use Rattle.judge.proofs.outcome.end_of.Kinds as end-of-kinds
 use Rattle.judge.proofs.outcome.end_of.Reads as end-of-reads
 use Rattle.judge.proofs.outcome.step_of.Kinds as step-of-kinds
@@ -62,3 +64,6 @@ look-among κs a x y e f = by-equation
 -- of the one that takes the lent directory, over the definition that the contract cites
 pub look-up : (dir : List Participant) (sender : ℕ) (asked : Asked) (x y : Looked) → x ≡ lookedFor dir sender asked → y ≡ lookedFor dir sender asked → x ≡ y
 look-up dir sender asked x y = by-equation
+
+pub movement-in : Settled _ movement-in-kinds.ps movement-in-kinds.r movement-in-reads.Post
+movement-in κs a x y e f = by-equation

@@ -10,7 +10,8 @@ use Rattle.shape.proofs.Tests.{or-cases, or-left, or-right}
 use Rattle.table.specs.declared.Kind.{Kind}
 use Rattle.table.specs.declared.Kind.the-variants.{Pacs008, Camt050, Pacs028}
 use Rattle.table.specs.Checks.{orderOf, isIn, runs}
-use Rattle.slip.proofs.Orders.{appears, appears-in-order}
+use Rattle.journal.specs.Results.{failsBy}
+use Rattle.journal.proofs.ResultLaws.{fails-in-order}
 use Rattle.judge.specs.declared.case.Case.{Case}
 use Rattle.judge.specs.Verdict.{fails, firstFailing, verdict}
 
@@ -70,9 +71,9 @@ pub verdict-fails : (c : Case) (s : List ℕ) → (verdict c s ≡ 0 → ⊥)
 unfolding verdict runs
 verdict-fails c s some = first-fails (fails c s) (orderOf (c .message .kind)) some
 
--- and, but for checks 1 and 2, by one that may appear
-pub verdict-appears : (c : Case) (s : List ℕ) → (verdict c s ≡ 0 → ⊥) → (verdict c s ≡ 1 → ⊥) → (verdict c s ≡ 2 → ⊥)
-    → appears (c .message .kind) (verdict c s) ≡ true
-verdict-appears c s some one two =
-    sym (appears-in-order (c .message .kind) (verdict c s))
+-- and, but for checks 1 and 2, by one that a step can have failed by
+pub verdict-stored : (c : Case) (s : List ℕ) → (verdict c s ≡ 0 → ⊥) → (verdict c s ≡ 1 → ⊥) → (verdict c s ≡ 2 → ⊥)
+    → failsBy (c .message .kind) (verdict c s) ≡ true
+verdict-stored c s some one two =
+    sym (fails-in-order (c .message .kind) (verdict c s))
     ∙ rw (verdict-fails c s some .0, ne-eqb (verdict c s) 1 one, ne-eqb (verdict c s) 2 two)

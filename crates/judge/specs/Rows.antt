@@ -25,7 +25,7 @@ use Rattle.message.specs.Good.{isGiven}
 use Rattle.journal.specs.declared.traces.Trace.the-variants as trace
 use Rattle.journal.specs.declared.traces.Earlier.{Earlier}
 use Rattle.journal.specs.declared.traces.Earlier.the-variants as earlier
-use Rattle.journal.specs.Traces.{earliest}
+use Rattle.journal.specs.Traces.{earliest, isThere, isKnown}
 use Rattle.journal.specs.Limits.{blockedOut, blockedInto, availableBelow, turnoverAbove, turnoverShut}
 use Rattle.judge.specs.declared.case.Case.{Case}
 use Rattle.judge.specs.declared.case.Movement.{Movement}
@@ -51,11 +51,6 @@ senderNoOwner c = isListed (c .source) && not (ownerFound (c .source))
 unfoldable pub identifierBad : Case → Bool
 identifierBad c = not (agree (c .message .id .code) (Of (c .sender)))
 
--- a step that is looked for is there
-unfoldable pub isThere : Earlier → Bool
-isThere (earlier.Of x) = true
-isThere earlier.None = false
-
 -- 6: MsgId in an earlier step
 unfoldable pub identifierRepeated : Case → List ℕ → Bool
 identifierRepeated c s = isThere (earliest (trace.Message (c .message .id .stored)) s)
@@ -76,17 +71,17 @@ notFromSender c = not (agree (c .message .instructing) (Of (c .sender)))
 unfoldable pub originalBad : Case → Bool
 originalBad c = not (agree (c .message .original .code) (Of (c .sender)))
 
+-- 10: no pacs.008 step has it
+unfoldable pub originalUnknown : Case → List ℕ → Bool
+originalUnknown c s = not (isKnown (c .message .original .stored) s)
+
 -- the payment that a pacs.028 asks after: the first pacs.008 step that has OrgnlMsgId
 unfoldable pub askedAfter : Case → List ℕ → Earlier
 askedAfter c s = earliest (trace.Payment (c .message .original .stored)) s
 
--- 10: no pacs.008 step has it
-unfoldable pub originalUnknown : Case → List ℕ → Bool
-originalUnknown c s = not (isThere (askedAfter c s))
-
 -- 11: the first such step differs in time, UETR or EndToEndId
 unfoldable pub differs : Message → Earlier → Bool
-differs m (earlier.Of x) =
+differs m (earlier.Of k x) =
     not (agree (m .originated) (Of (x .created)) && sameUetr (x .uetr) (m .uetr) && sameIdentifier (x .reference) (m .reference))
 differs m earlier.None = false
 
@@ -128,6 +123,10 @@ creditorNotHryvnia c = not (eqb (c .message .credit .currency) hryvnia)
 
 unfoldable pub debtorNotHryvnia : Case → Bool
 debtorNotHryvnia c = not (eqb (c .message .debit .currency) hryvnia)
+
+-- the movement that 20 to 24 run on in a seat: that of the message, by the directory
+unfoldable pub movementIn : Case → List ℕ → Movement
+movementIn c s = c .movement
 
 -- 20 to 24 are over the accounts of a seat, a debited one or none, a credited one or none, and an amount: what the account shows, and nothing
 -- where there is none

@@ -13,9 +13,11 @@ use Rattle.slip.specs.Meaning.{kindNumber, statusNumber}
 use Rattle.layout.specs.declared.rows.Step.{Step}
 use Rattle.journal.specs.declared.traces.Earlier.{Earlier}
 use Rattle.journal.specs.declared.traces.Earlier.the-variants.{Of, None}
+use Rattle.journal.specs.declared.results.Outcome.{Outcome}
+use Rattle.journal.specs.Results.{resultNow}
 use Rattle.journal.specs.Steps.{noSettings}
 use Rattle.judge.specs.declared.case.Case.{Case}
-use Rattle.judge.specs.declared.outcome.Outcome.{Outcome}
+use Rattle.judge.specs.declared.case.Movement.{Movement}
 use Rattle.judge.specs.Values.{orZero}
 use Rattle.judge.specs.Rows.{
   senderUnlisted,
@@ -53,6 +55,7 @@ use Rattle.judge.specs.Rows.{
   instructingNotServing,
   ibanWrong,
   askedAfter,
+  movementIn,
 }
 
 -- all rows, by the numbers of their checks; no check has the number 0
@@ -78,11 +81,11 @@ rowsOf c s =
     ∷ uetrRepeated c s
     ∷ creditorNotHryvnia c
     ∷ debtorNotHryvnia c
-    ∷ debitBlocked (c .movement) s
-    ∷ creditBlocked (c .movement) s
-    ∷ moneyShort (c .movement) s
-    ∷ limitPassed (c .movement) s
-    ∷ limitZero (c .movement) s
+    ∷ debitBlocked (movementIn c s) s
+    ∷ creditBlocked (movementIn c s) s
+    ∷ moneyShort (movementIn c s) s
+    ∷ limitPassed (movementIn c s) s
+    ∷ limitZero (movementIn c s) s
     ∷ debtorUnlisted c
     ∷ creditorNoProvider c
     ∷ instructedNoBank c
@@ -112,23 +115,23 @@ verdict c s = firstFailing (fails c s) (orderOf (c .message .kind))
 unfoldable pub transferred : ℕ → Outcome
 transferred check = cond (eqb check 0) (record { status = statusNumber Accc; check = 0 }) (record { status = statusNumber Rjct; check = check })
 
--- what a pacs.028 tells of the payment that it asks after
-unfoldable pub toldOf : Earlier → Outcome
-toldOf (Of x) = record { status = x .status; check = x .check }
-toldOf None = record { status = statusNumber Pdng; check = 0 }
+-- what a pacs.028 tells of the payment that it asks after: what has become of it
+unfoldable pub toldOf : Earlier → List ℕ → Outcome
+toldOf (Of k x) s = resultNow s k
+toldOf None s = record { status = statusNumber Pdng; check = 0 }
 
--- what a pacs.028 answers: its own first failing check as PDNG, else how the payment ended
-unfoldable pub answered : ℕ → Earlier → Outcome
-answered check x = cond (eqb check 0) (toldOf x) (record { status = statusNumber Pdng; check = check })
+-- what a pacs.028 answers: its own first failing check as PDNG, else what is told of the payment
+unfoldable pub answered : ℕ → Outcome → Outcome
+answered check told = cond (eqb check 0) told (record { status = statusNumber Pdng; check = check })
 
-unfoldable pub endOf : Kind → ℕ → Earlier → Outcome
-endOf Pacs008 check x = transferred check
-endOf Camt050 check x = transferred check
-endOf Pacs028 check x = answered check x
+unfoldable pub endOf : Kind → ℕ → Outcome → Outcome
+endOf Pacs008 check told = transferred check
+endOf Camt050 check told = transferred check
+endOf Pacs028 check told = answered check told
 
 -- what becomes of a message
 unfoldable pub outcome : Case → List ℕ → Outcome
-outcome c s = endOf (c .message .kind) (verdict c s) (askedAfter c s)
+outcome c s = endOf (c .message .kind) (verdict c s) (toldOf (askedAfter c s) s)
 
 -- a transfer that is carried out
 unfoldable pub carried : Kind → Outcome → Bool
@@ -136,9 +139,9 @@ carried Pacs008 o = eqb (o .status) (statusNumber Accc)
 carried Camt050 o = eqb (o .status) (statusNumber Accc)
 carried Pacs028 o = false
 
--- the step that a message is: what document 01 says that a step stores, with a movement exactly where a transfer is carried out
-unfoldable pub stepMade : Case → Outcome → Step
-stepMade c o =
+-- the step that a message is: what document 01 says that a step stores, with the movement exactly where a transfer is carried out
+unfoldable pub stepMade : Case → Movement → Outcome → Step
+stepMade c move o =
     let moved : ℕ → ℕ = λ n. cond (carried (c .message .kind) o) n 0 in
     record {
       kind = kindNumber (c .message .kind);
@@ -149,10 +152,14 @@ stepMade c o =
       uetr = c .message .uetr;
       created = orZero (c .message .created);
       reference = c .message .reference;
-      debit = moved (orZero (c .movement .debit));
-      credit = moved (orZero (c .movement .credit));
-      amount = moved (c .movement .amount);
+      debit = moved (orZero (move .debit));
+      credit = moved (orZero (move .credit));
+      amount = moved (move .amount);
       account = 0;
       old = noSettings;
       given = noSettings;
     }
+
+-- and in its seat
+unfoldable pub judgedStep : Case → List ℕ → Step
+judgedStep c s = stepMade c (movementIn c s) (outcome c s)

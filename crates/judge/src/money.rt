@@ -1,18 +1,27 @@
 // Checks 20 to 24: blocks, limits and available money of the accounts that a movement is between. The rules stand in `specs/Rows.antt`, one
 // definition for each function.
+use crate::case::Case;
 use crate::case::Movement;
 use journal::available_below;
 use journal::blocked_into;
 use journal::blocked_out;
 use journal::turnover_above;
 use journal::turnover_shut;
+use layout::ACCOUNTS;
 use layout::account;
 use layout::rows::Account;
 use shape::value::Value;
 ghost use mathlib.Core.Path.{_≡_};
 ghost use lib.ListN.{length};
 ghost use Rattle.layout.specs.Seat.{seatLong};
-ghost use Rattle.judge.specs.Rows.{accountAt, debitBlocked, creditBlocked, moneyShort, limitPassed, limitZero};
+ghost use Rattle.judge.specs.Rows.{movementIn, accountAt, debitBlocked, creditBlocked, moneyShort, limitPassed, limitZero};
+
+// The movement that checks 20 to 24 run on in a seat.
+pub fn movement_in(c: Case, s: &[u64]) -> Movement
+    ensures { λ r. ⌜ r ≡ movementIn c (now (s .entry)) ⌝ }
+{
+    c.movement
+}
 
 // An account, or that there is none.
 pub enum Holding {
@@ -27,7 +36,7 @@ fn account_at(s: &[u64], number: Value) -> Holding
 {
     match number {
         Value::Of(i) => {
-            if i < 32 {
+            if i < ACCOUNTS as u64 {
                 Holding::Of(account(s, i as usize))
             } else {
                 Holding::None

@@ -16,6 +16,7 @@ use crate::money::debit_blocked;
 use crate::money::limit_passed;
 use crate::money::limit_zero;
 use crate::money::money_short;
+use crate::money::movement_in;
 use crate::repeats::identifier_repeated;
 use crate::repeats::original_differs;
 use crate::repeats::original_unknown;
@@ -68,11 +69,11 @@ pub fn fails(c: Case, s: &[u64], number: u64) -> bool
         17 => uetr_repeated(c, s),
         18 => creditor_not_hryvnia(c),
         19 => debtor_not_hryvnia(c),
-        20 => debit_blocked(c.movement, s),
-        21 => credit_blocked(c.movement, s),
-        22 => money_short(c.movement, s),
-        23 => limit_passed(c.movement, s),
-        24 => limit_zero(c.movement, s),
+        20 => debit_blocked(movement_in(c, s), s),
+        21 => credit_blocked(movement_in(c, s), s),
+        22 => money_short(movement_in(c, s), s),
+        23 => limit_passed(movement_in(c, s), s),
+        24 => limit_zero(movement_in(c, s), s),
         25 => debtor_unlisted(c),
         26 => creditor_no_provider(c),
         27 => instructed_no_bank(c),

@@ -4,6 +4,8 @@ use crate::values::agree;
 use journal::Earlier;
 use journal::Trace;
 use journal::earliest;
+use journal::is_known;
+use journal::is_there;
 use message::Message;
 use shape::stored::same_identifier;
 use shape::stored::same_uetr;
@@ -13,16 +15,7 @@ ghost use Prim.Native.Nat.{_≤_};
 ghost use lib.ListN.{length};
 ghost use Rattle.slip.specs.Meaning.{steps};
 ghost use Rattle.layout.specs.Seat.{seatLong, headOf};
-ghost use Rattle.judge.specs.Rows.{isThere, identifierRepeated, askedAfter, originalUnknown, differs, originalDiffers, uetrRepeated};
-
-fn is_there(x: Earlier) -> bool
-    ensures { λ r. ⌜ r ≡ isThere x ⌝ }
-{
-    match x {
-        Earlier::Of(_step) => true,
-        Earlier::None => false,
-    }
-}
+ghost use Rattle.judge.specs.Rows.{identifierRepeated, askedAfter, originalUnknown, differs, originalDiffers, uetrRepeated};
 
 pub fn identifier_repeated(c: Case, s: &[u64]) -> bool
     requires { ⌜ (length (now s) ≡ seatLong) × (headOf (now s) .steps ≤ steps) ⌝ }
@@ -45,7 +38,8 @@ pub fn original_unknown(c: Case, s: &[u64]) -> bool
     requires { ⌜ (length (now s) ≡ seatLong) × (headOf (now s) .steps ≤ steps) ⌝ }
     ensures { λ r. ⌜ r ≡ originalUnknown c (now (s .entry)) ⌝ }
 {
-    !is_there(asked_after(c, s))
+    let id = c.message.original.stored;
+    !is_known(s, id)
 }
 
 // Whether a payment differs from what a pacs.028 says of it.
@@ -54,7 +48,7 @@ fn differs(m: Message, payment: Earlier) -> bool
 {
     let originated = m.originated;
     match payment {
-        Earlier::Of(x) => {
+        Earlier::Of(_place, x) => {
             !(agree(originated, Value::Of(x.created))
                 & same_uetr(x.uetr, m.uetr)
                 & same_identifier(x.reference, m.reference))

@@ -20,6 +20,6 @@ use Rattle.seat.proofs.Forward.{open-fits}
 pub journal-fits : (s : List ℕ) → openFits s ≡ true → every stepFits (journalOf s) ≡ true
 journal-fits s e = worked-fits (journalOf s) (openSeat (headOf s .opening) (sumsOf s)) s (open-fits s e .comes)
 
-pub earliest-fits : (trace : Trace) (s : List ℕ) (x : Step) → openFits s ≡ true → earliest trace s ≡ Of x → stepFits x ≡ true
+pub earliest-fits : (trace : Trace) (s : List ℕ) (k : ℕ) (x : Step) → openFits s ≡ true → earliest trace s ≡ Of k x → stepFits x ≡ true
 unfolding earliest
-earliest-fits trace s x f e = first-fits trace (journalOf s) x (journal-fits s f) e
+earliest-fits trace s k x f e = first-fits trace 0 (journalOf s) k x (journal-fits s f) e

@@ -1,5 +1,4 @@
 pub mod Meanings
-pub mod Orders
 pub mod Ranges
 pub mod Small
 pub mod Bytes

@@ -3,8 +3,8 @@ use Rattle.journal.specs.Steps.{messageFits}
 use Rattle.journal.proofs.steps.message_fits.Statement.{statement}
 use Rattle.journal.proofs.steps.message_fits.Tie as tie
 
-can-say-requires : tie.Need-can-say-requires
-can-say-requires c κs = tt
+result-fits-requires : tie.Need-result-fits-requires
+result-fits-requires c κs = tt
 
 is-stored-requires : tie.Need-is-stored-requires
 is-stored-requires c κs = tt
@@ -26,13 +26,13 @@ no-set-requires c κs = tt
 
 returns : tie.Need-returns
 unfolding messageFits
-returns c = rw (c .before .before .before .before .before .before .before .can-say .ensures, c .before .before .before .before .before .is-stored .ensures, c .before .before .before .before .is-stored-uetr .ensures, c .before .before .before .is-time .ensures, c .before .before .reference-fits .ensures, c .before .movement-fits .ensures, c .no-set .ensures)
+returns c = rw (c .before .before .before .before .before .before .before .result-fits .ensures, c .before .before .before .before .before .is-stored .ensures, c .before .before .before .before .is-stored-uetr .ensures, c .before .before .before .is-time .ensures, c .before .before .reference-fits .ensures, c .before .movement-fits .ensures, c .no-set .ensures)
 
 pub message-fits-spec : {M : Type 1} → statement M
 message-fits-spec =
     tie.close
     (tie.spec
-    can-say-requires
+    result-fits-requires
     is-stored-requires
     is-stored-uetr-requires
     is-time-requires

@@ -11,7 +11,7 @@ use Rattle.journal.proofs.traces.earliest.Statement.{statement}
 use Rattle.journal.proofs.traces.earliest.Tie as tie
 
 abbrev Inv-loop : tie.InvT-loop
-Inv-loop s trace count k₀ k = (count ≤ steps) × (earliest trace s ≡ firstIn trace (stepsFrom s k (count - k)))
+Inv-loop s trace count k₀ k = (count ≤ steps) × (earliest trace s ≡ firstIn trace k (stepsFrom s k (count - k)))
 
 abbrev μ-loop : tie.MeasureT-loop
 μ-loop s trace count k₀ k = count - k

@@ -1,9 +1,10 @@
 -- A set, a step that moves nothing and a movement are told apart as the definition does; a fit step names accounts of the seat.
-use borrow.Author.Tests.{eq-eqb, ne-eqb}
+use mathlib.Core.Path.{sym, _∙_}
+use borrow.Author.Tests.{eq-eqb, ne-eqb, not-true, not-false}
 use borrow.Author.Needs.{needs}
 use Rattle.journal.specs.Steps.{setKind}
 use Rattle.journal.proofs.StepLaws.{set-account, moved-within}
-use Rattle.journal.proofs.Moves.{sets, rests, moves}
+use Rattle.journal.proofs.Moves.{sets, rests, transfers}
 use Rattle.journal.proofs.working.do_effect.Statement.{statement}
 use Rattle.journal.proofs.working.do_effect.Tie as tie
 
@@ -22,19 +23,26 @@ same-length c = search needs
 returns : tie.Need-returns
 returns c = sets (c .before .before .before .before .before .before .before .before .before .before .args .x) (c .before .before .before .before .before .before .before .before .before .before .args .s .now) (c .before .before .put-account .last .0) (c .before .before .before .before .before .account .result) (c .before .before .before .with-settings .result) (c .before .before .before .before .before .before .before .if1 .taken) (c .before .before .before .before .before .account .ensures) (c .before .before .before .with-settings .ensures) (c .before .before .put-account .ensures)
 
+moves-requires : tie.Need-moves-requires
+moves-requires c κs = tt
+
 returns-2 : tie.Need-returns-2
-returns-2 c = rests (c .before .before .before .before .before .args .x) (c .before .before .before .before .before .args .s .now) (c .before .before .if1 .left) (c .if2 .taken)
+returns-2 c = rests (c .before .before .before .before .before .args .x) (c .before .before .before .before .before .args .s .now) (c .before .before .if1 .left) (sym (c .before .moves .ensures) ∙ not-true _ (c .if2 .taken))
 
 move-money-requires : tie.Need-move-money-requires
 move-money-requires c κs =
-    let within = moved-within (c .before .before .before .before .before .before .args .x) (c .before .before .before .before .before .before .pre .1) (ne-eqb (c .before .before .before .before .before .before .args .x .kind) setKind (c .before .before .before .if1 .left)) (c .before .if2 .left) in
+    let kind = ne-eqb (c .before .before .before .before .before .before .args .x .kind) setKind (c .before .before .before .if1 .left) in
+    let some = sym (c .before .before .moves .ensures) ∙ not-false _ (c .before .if2 .left) in
+    let within = moved-within (c .before .before .before .before .before .before .args .x) (c .before .before .before .before .before .before .pre .1) kind some in
     (c .before .before .before .before .before .before .pre .0, within .0, within .1, within .2)
 
 same-length-2 : tie.Need-same-length-2
 same-length-2 c = search needs
 
 returns-3 : tie.Need-returns-3
-returns-3 c = moves (c .before .before .before .before .before .before .before .before .before .args .x) (c .before .before .before .before .before .before .before .before .before .args .s .now) (c .before .before .move-money .last .0) (c .before .before .before .before .before .before .if1 .left) (c .before .before .before .before .if2 .left) (c .before .before .move-money .ensures)
+returns-3 c =
+    transfers (c .before .before .before .before .before .before .before .before .before .args .x) (c .before .before .before .before .before .before .before .before .before .args .s .now) (c .before .before .move-money .last .0) (c .before .before .before .before .before .before .if1 .left)
+    (sym (c .before .before .before .before .before .moves .ensures) ∙ not-false _ (c .before .before .before .before .if2 .left)) (c .before .before .move-money .ensures)
 
 pub do-effect-spec : {M : Type 1} → statement M
 do-effect-spec =
@@ -45,6 +53,7 @@ do-effect-spec =
     put-account-requires
     same-length
     returns
+    moves-requires
     returns-2
     move-money-requires
     same-length-2

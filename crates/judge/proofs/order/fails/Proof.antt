@@ -63,20 +63,35 @@ creditor-not-hryvnia-requires c κs = tt
 debtor-not-hryvnia-requires : tie.Need-debtor-not-hryvnia-requires
 debtor-not-hryvnia-requires c κs = tt
 
+movement-in-requires : tie.Need-movement-in-requires
+movement-in-requires c κs = tt
+
 debit-blocked-requires : tie.Need-debit-blocked-requires
-debit-blocked-requires c κs = c .before .before .pre .0
+debit-blocked-requires c κs = c .before .before .before .pre .0
+
+movement-in-requires-2 : tie.Need-movement-in-requires-2
+movement-in-requires-2 c κs = tt
 
 credit-blocked-requires : tie.Need-credit-blocked-requires
-credit-blocked-requires c κs = c .before .before .pre .0
+credit-blocked-requires c κs = c .before .before .before .pre .0
+
+movement-in-requires-3 : tie.Need-movement-in-requires-3
+movement-in-requires-3 c κs = tt
 
 money-short-requires : tie.Need-money-short-requires
-money-short-requires c κs = c .before .before .pre .0
+money-short-requires c κs = c .before .before .before .pre .0
+
+movement-in-requires-4 : tie.Need-movement-in-requires-4
+movement-in-requires-4 c κs = tt
 
 limit-passed-requires : tie.Need-limit-passed-requires
-limit-passed-requires c κs = c .before .before .pre .0
+limit-passed-requires c κs = c .before .before .before .pre .0
+
+movement-in-requires-5 : tie.Need-movement-in-requires-5
+movement-in-requires-5 c κs = tt
 
 limit-zero-requires : tie.Need-limit-zero-requires
-limit-zero-requires c κs = c .before .before .pre .0
+limit-zero-requires c κs = c .before .before .before .pre .0
 
 debtor-unlisted-requires : tie.Need-debtor-unlisted-requires
 debtor-unlisted-requires c κs = tt
@@ -186,23 +201,23 @@ returns-19 c = rw (c .before .match .keys19) (c .debtor-not-hryvnia .ensures)
 
 returns-20 : tie.Need-returns-20
 unfolding fails rowsOf
-returns-20 c = rw (c .before .match .keys20) (c .debit-blocked .ensures)
+returns-20 c = rw (c .before .before .match .keys20) (rw (c .before .movement-in .ensures) at (c .debit-blocked .ensures))
 
 returns-21 : tie.Need-returns-21
 unfolding fails rowsOf
-returns-21 c = rw (c .before .match .keys21) (c .credit-blocked .ensures)
+returns-21 c = rw (c .before .before .match .keys21) (rw (c .before .movement-in2 .ensures) at (c .credit-blocked .ensures))
 
 returns-22 : tie.Need-returns-22
 unfolding fails rowsOf
-returns-22 c = rw (c .before .match .keys22) (c .money-short .ensures)
+returns-22 c = rw (c .before .before .match .keys22) (rw (c .before .movement-in3 .ensures) at (c .money-short .ensures))
 
 returns-23 : tie.Need-returns-23
 unfolding fails rowsOf
-returns-23 c = rw (c .before .match .keys23) (c .limit-passed .ensures)
+returns-23 c = rw (c .before .before .match .keys23) (rw (c .before .movement-in4 .ensures) at (c .limit-passed .ensures))
 
 returns-24 : tie.Need-returns-24
 unfolding fails rowsOf
-returns-24 c = rw (c .before .match .keys24) (c .limit-zero .ensures)
+returns-24 c = rw (c .before .before .match .keys24) (rw (c .before .movement-in5 .ensures) at (c .limit-zero .ensures))
 
 returns-25 : tie.Need-returns-25
 unfolding fails rowsOf
@@ -270,10 +285,15 @@ fails-spec =
     uetr-repeated-requires
     creditor-not-hryvnia-requires
     debtor-not-hryvnia-requires
+    movement-in-requires
     debit-blocked-requires
+    movement-in-requires-2
     credit-blocked-requires
+    movement-in-requires-3
     money-short-requires
+    movement-in-requires-4
     limit-passed-requires
+    movement-in-requires-5
     limit-zero-requires
     debtor-unlisted-requires
     creditor-no-provider-requires

@@ -4,12 +4,9 @@ use Rattle.judge.specs.Verdict.{answered}
 use Rattle.judge.proofs.outcome.answered.Statement.{statement}
 use Rattle.judge.proofs.outcome.answered.Tie as tie
 
-told-of-requires : tie.Need-told-of-requires
-told-of-requires c κs = tt
-
 returns : tie.Need-returns
 unfolding answered
-returns c = rw (eq-eqb (c .before .before .args .check) 0 (c .before .if1 .taken)) (c .told-of .ensures)
+returns c = rw (eq-eqb (c .before .args .check) 0 (c .if1 .taken))
 
 status-number-requires : tie.Need-status-number-requires
 status-number-requires c κs = tt
@@ -19,4 +16,4 @@ unfolding answered
 returns-2 c = rw (ne-eqb (c .before .before .args .check) 0 (c .before .if1 .left), c .status-number .ensures)
 
 pub answered-spec : {M : Type 1} → statement M
-answered-spec = tie.close (tie.spec told-of-requires returns status-number-requires returns-2)
+answered-spec = tie.close (tie.spec returns status-number-requires returns-2)

@@ -1,13 +1,15 @@
 -- Each kind's arm is the definition's.
-use mathlib.Core.Path.{_≡_, sym, _∙_}
+use mathlib.Core.Path.{_≡_, sym, ap, _∙_}
 use Prim.Native.Nat.{ℕ}
 use denote.Ref.{now}
 use borrow.Author.Needs.{needs}
 use Rattle.table.specs.declared.Kind.{Kind}
 use Rattle.table.specs.declared.Kind.the-variants.{Pacs028}
-use Rattle.journal.specs.declared.traces.Earlier.{Earlier}
+use Rattle.journal.specs.declared.results.Outcome.{Outcome}
+use Rattle.journal.specs.Traces.{placeFits}
 use Rattle.judge.specs.Rows.{askedAfter}
-use Rattle.judge.specs.Verdict.{answered, endOf}
+use Rattle.judge.specs.Verdict.{toldOf, answered, endOf}
+use Rattle.judge.proofs.Ends.{asked-within}
 use Rattle.judge.proofs.outcome.end_of.Statement.{statement}
 use Rattle.judge.proofs.outcome.end_of.Tie as tie
 
@@ -29,6 +31,10 @@ enum-told-3 c = search needs
 asked-after-requires : tie.Need-asked-after-requires
 asked-after-requires c κs = c .before .before .before .before .pre
 
+told-of-requires : tie.Need-told-of-requires
+told-of-requires c κs =
+    (c .before .before .before .before .before .pre .0, ap placeFits (c .asked-after .ensures) ∙ asked-within (c .before .before .before .before .before .args .c) (now (c .before .before .before .before .before .args .s)) (c .before .before .before .before .before .pre .1))
+
 answered-requires : tie.Need-answered-requires
 answered-requires c κs = tt
 
@@ -41,14 +47,14 @@ unfolding endOf
 returns-2 c = rw (c .before .enum-told2 .given .1) (c .transferred2 .ensures)
 
 -- the kind is written apart from the case, which has it too
-asks : (kind : Kind) (check : ℕ) (x : Earlier) → kind ≡ Pacs028 → endOf kind check x ≡ answered check x
+asks : (kind : Kind) (check : ℕ) (told : Outcome) → kind ≡ Pacs028 → endOf kind check told ≡ answered check told
 unfolding endOf
-asks kind check x e = rw e
+asks kind check told e = rw e
 
 returns-3 : tie.Need-returns-3
 returns-3 c =
-    (rw (c .before .asked-after .ensures) at (c .answered .ensures))
-    ∙ sym (asks (c .before .before .before .before .before .before .args .c .message .kind) (c .before .before .before .before .before .before .args .check) (askedAfter (c .before .before .before .before .before .before .args .c) (now (c .before .before .before .before .before .before .args .s))) (c .before .before .enum-told3 .given .1))
+    (rw (c .before .told-of .ensures, c .before .before .asked-after .ensures) at (c .answered .ensures))
+    ∙ sym (asks (c .before .before .before .before .before .before .before .args .c .message .kind) (c .before .before .before .before .before .before .before .args .check) (toldOf (askedAfter (c .before .before .before .before .before .before .before .args .c) (now (c .before .before .before .before .before .before .before .args .s))) (now (c .before .before .before .before .before .before .before .args .s))) (c .before .before .before .enum-told3 .given .1))
 
 pub end-of-spec : {M : Type 1} → statement M
 end-of-spec =
@@ -60,6 +66,7 @@ end-of-spec =
     transferred-requires-2
     enum-told-3
     asked-after-requires
+    told-of-requires
     answered-requires
     returns
     returns-2

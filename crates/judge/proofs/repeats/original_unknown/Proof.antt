@@ -3,15 +3,12 @@ use Rattle.judge.specs.Rows.{originalUnknown}
 use Rattle.judge.proofs.repeats.original_unknown.Statement.{statement}
 use Rattle.judge.proofs.repeats.original_unknown.Tie as tie
 
-asked-after-requires : tie.Need-asked-after-requires
-asked-after-requires c κs = c .before .pre
-
-is-there-requires : tie.Need-is-there-requires
-is-there-requires c κs = tt
+is-known-requires : tie.Need-is-known-requires
+is-known-requires c κs = c .before .before .pre
 
 returns : tie.Need-returns
 unfolding originalUnknown
-returns c = rw (c .is-there .ensures, c .before .asked-after .ensures)
+returns c = rw (c .is-known .ensures)
 
 pub original-unknown-spec : {M : Type 1} → statement M
-original-unknown-spec = tie.close (tie.spec asked-after-requires is-there-requires returns)
+original-unknown-spec = tie.close (tie.spec is-known-requires returns)

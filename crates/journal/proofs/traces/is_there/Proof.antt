@@ -1,8 +1,8 @@
 -- A step that was found is there; none is not.
-use Rattle.judge.specs.Rows.{isThere}
+use Rattle.journal.specs.Traces.{isThere}
 use borrow.Author.Needs.{needs}
-use Rattle.judge.proofs.repeats.is_there.Statement.{statement}
-use Rattle.judge.proofs.repeats.is_there.Tie as tie
+use Rattle.journal.proofs.traces.is_there.Statement.{statement}
+use Rattle.journal.proofs.traces.is_there.Tie as tie
 
 enum-known-x : tie.Need-enum-known-x
 enum-known-x c = search needs
