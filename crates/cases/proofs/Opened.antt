@@ -18,9 +18,10 @@ use Rattle.sheet.specs.Machine.{step}
 use Rattle.outline.specs.Paths.{samePath, charactersOf, standing, atDepth, sameName}
 use Rattle.outline.specs.Rows.{insideAt, rowsFrom, hasCcy, rowsOf as outlineRowsOf, textAt, ccyAt, nameEnd, nameAt, hasText}
 use Rattle.message.specs.Fields.{camt050Fields, pacs008Fields, pacs028Fields, fieldsOf as messageFieldsOf, numbersOf, bodyOf}
-use Rattle.message.specs.Good.{ccyFits, textFits, goesWith, firstBad, hasShape, isGood, heldIn}
+use Rattle.message.specs.Held.{heldIn, kindNamed, kindOf, onlyKind, heldOf}
+use Rattle.message.specs.Good.{ccyFits, textFits, goesWith, firstBad, hasShape, isGood}
 use Rattle.message.specs.Message.{ccyIn, agentOf, messageFrom, startIn, lengthIn, nameOf, textIn, messageOf}
-use Rattle.message.specs.Received.{receivedFrom, kindNamed, receivedIn, receivedAs, kindOf, onlyKind, receivedOf, heldOf}
+use Rattle.message.specs.Received.{receivedFrom, receivedIn, receivedAs, receivedOf}
 use Rattle.directory.specs.Directory.{foundFrom, isFit, ownerUsed, found}
 use Rattle.layout.specs.Parts.{put, part}
 use Rattle.layout.specs.Rows.{accountRow, headRow, stepRow, stepIn, accountIn, headIn}

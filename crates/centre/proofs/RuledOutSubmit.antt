@@ -21,7 +21,8 @@ use Rattle.slip.proofs.Small.{slip-small}
 use Rattle.message.specs.declared.Message.{Message}
 use Rattle.message.specs.declared.Answer.{Answer}
 use Rattle.message.specs.declared.Answer.the-variants.{IllFormed, BadField, Good}
-use Rattle.message.specs.Received.{numberOf, receivedOf}
+use Rattle.message.specs.Received.{receivedOf}
+use Rattle.message.specs.Lowest.{numberOf}
 use Rattle.directory.specs.declared.Participant.{Participant}
 use Rattle.directory.specs.Directory.{codeMost, isFit}
 use Rattle.layout.specs.declared.rows.Step.{Step}

@@ -22,10 +22,12 @@ use Rattle.message.specs.declared.kinds.Body.{Body}
 use Rattle.message.specs.declared.kinds.Body.the-variants.{Of, Unknown}
 use Rattle.message.specs.Fields.{Field, fieldsOf}
 use Rattle.message.specs.Message.{startIn, lengthIn, messageOf}
-use Rattle.message.specs.Good.{Held, isGood, goesWith, firstBad, lowestBad}
+use Rattle.message.specs.Held.{Held, kindOf, heldOf}
+use Rattle.message.specs.Good.{isGood, goesWith, firstBad, lowestBad}
 use Rattle.message.specs.declared.Answer.the-variants.{BadField, Good}
 use Rattle.message.specs.declared.Received.{Received}
-use Rattle.message.specs.Received.{numberOf, byNumber, refusal, judged, kindOf, heldOf, receivedIn, receivedAs, receivedFrom, receivedOf}
+use Rattle.message.specs.Received.{byNumber, refusal, judged, receivedIn, receivedAs, receivedFrom, receivedOf}
+use Rattle.message.specs.Lowest.{numberOf}
 use Rattle.message.proofs.FieldShown.{fields-few}
 use Rattle.directory.specs.declared.Participant.{Participant}
 use Rattle.directory.specs.Directory.{codeMost, isFit}

@@ -10,7 +10,8 @@ use Rattle.shape.specs.Dates.{isDate}
 use Rattle.slip.specs.Meaning.{slipLong, openings, steps}
 use Rattle.slip.specs.Image.{image}
 use Rattle.slip.specs.Answers.{writeAfter}
-use Rattle.message.specs.Received.{numberOf, receivedOf}
+use Rattle.message.specs.Received.{receivedOf}
+use Rattle.message.specs.Lowest.{numberOf}
 use Rattle.directory.specs.declared.Participant.{Participant}
 use Rattle.directory.specs.Directory.{codeMost, found, isFit}
 use Rattle.layout.specs.Rows.{accountRow}

@@ -12,7 +12,8 @@ use Rattle.slip.specs.Meaning.{slipLong, openings, steps}
 use Rattle.slip.specs.Image.{slipOf}
 use Rattle.slip.specs.Answers.{canWrite, holdsSlip}
 use Rattle.message.specs.declared.Answer.{Answer}
-use Rattle.message.specs.Received.{numberOf, receivedOf}
+use Rattle.message.specs.Received.{receivedOf}
+use Rattle.message.specs.Lowest.{numberOf}
 use Rattle.directory.specs.declared.Participant.{Participant}
 use Rattle.directory.specs.Directory.{codeMost, found, isFit}
 use Rattle.layout.specs.Rows.{accountRow}

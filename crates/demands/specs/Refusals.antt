@@ -9,7 +9,8 @@ use lib.Dec.{eqb}
 use lib.ListN.{length}
 use Rattle.shape.specs.Bytes.{every}
 use Rattle.slip.specs.Answers.{bufferShort}
-use Rattle.message.specs.Received.{numberOf, receivedOf}
+use Rattle.message.specs.Received.{receivedOf}
+use Rattle.message.specs.Lowest.{numberOf}
 use Rattle.directory.specs.declared.Participant.{Participant}
 use Rattle.directory.specs.Directory.{found, isFit}
 use Rattle.layout.specs.Seat.{roomLong, seatOf}

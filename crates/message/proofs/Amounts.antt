@@ -11,7 +11,7 @@ use Rattle.shape.specs.declared.value.Value.the-variants.{None}
 use Rattle.table.specs.declared.Kind.{Kind}
 use Rattle.table.specs.declared.Kind.the-variants.{Pacs008, Camt050, Pacs028}
 use Rattle.message.specs.Fields.{fieldsOf, pacs008Fields, camt050Fields, pacs028Fields, numbersOf}
-use Rattle.message.specs.Good.{Held, missing}
+use Rattle.message.specs.Held.{Held, missing}
 use Rattle.message.specs.Message.{ccyIn, numbered}
 
 pub no-currency : (held : List Held) (number : ℕ) → number ≡ 0 → None ≡ currencyOf (ccyIn (numbered held number))

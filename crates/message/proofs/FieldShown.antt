@@ -15,9 +15,10 @@ use Rattle.table.specs.declared.Kind.the-variants.{Pacs008, Camt050, Pacs028}
 use Rattle.message.specs.declared.kinds.Body.{Body}
 use Rattle.message.specs.declared.kinds.Body.the-variants.{Of, Unknown}
 use Rattle.message.specs.Fields.{Field, fieldsOf, fieldsMost, pacs008Fields, camt050Fields, pacs028Fields}
-use Rattle.message.specs.Good.{Held, missing, once, heldIn, lowestBad}
+use Rattle.message.specs.Held.{Held, missing, once, heldIn, heldOf, kindOf}
+use Rattle.message.specs.Good.{lowestBad}
 use Rattle.message.specs.Message.{textIn, numbered}
-use Rattle.message.specs.Received.{heldOf, nothing, judged, receivedIn, receivedAs, receivedFrom, receivedOf, kindOf, shownIn, fieldAs, fieldFrom, fieldOf}
+use Rattle.message.specs.Received.{nothing, judged, receivedIn, receivedAs, receivedFrom, receivedOf, shownIn, fieldAs, fieldFrom, fieldOf}
 use Rattle.message.proofs.Stands.{Stands, missing-stands, doubled-stands, element-stands, all-stand, shown-is-text}
 
 -- rows of which each one's text stands in the sheet

@@ -10,7 +10,7 @@ use lib.Seq.{take-all}
 use Rattle.table.specs.declared.Kind.{Kind}
 use Rattle.message.specs.declared.kinds.Entry.{Entry}
 use Rattle.message.specs.Fields.{fieldsOf, fieldsMost}
-use Rattle.message.specs.Good.{Held, missing}
+use Rattle.message.specs.Held.{Held, missing}
 use Rattle.message.specs.Received.{byNumber}
 use Rattle.message.specs.Seen.{noField, entryOf, heldAt, heldSeen}
 use Rattle.message.proofs.Turns.{seenAt, seen-held}

@@ -22,7 +22,8 @@ use Rattle.outline.proofs.Shown.{Shows, text-there, text-missing}
 use Rattle.message.specs.declared.kinds.Shape.{Shape}
 use Rattle.message.specs.declared.kinds.Ccy.{Ccy}
 use Rattle.message.specs.declared.parts.Spot.{Spot}
-use Rattle.message.specs.Good.{Held, missing, once, doubled, hasShape, ccyFits, textFits, isGood}
+use Rattle.message.specs.Held.{Held, missing, once, doubled}
+use Rattle.message.specs.Good.{hasShape, ccyFits, textFits, isGood}
 use Rattle.message.specs.Message.{ccyIn, startIn, lengthIn}
 use Rattle.message.specs.Seen.{heldAt}
 

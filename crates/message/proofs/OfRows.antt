@@ -22,8 +22,7 @@ use Rattle.table.specs.declared.Kind.the-variants.{Pacs008, Camt050, Pacs028}
 use Rattle.message.specs.declared.kinds.Body.{Body}
 use Rattle.message.specs.declared.kinds.Body.the-variants.{Of, Unknown}
 use Rattle.message.specs.Fields.{Field, pacs008Fields, camt050Fields, pacs028Fields, fieldsOf, bodyOf}
-use Rattle.message.specs.Good.{Held, missing, once, doubled, heldIn}
-use Rattle.message.specs.Received.{kindNamed, onlyKind, kindOf, heldOf}
+use Rattle.message.specs.Held.{Held, missing, once, doubled, heldIn, kindNamed, onlyKind, kindOf, heldOf}
 use Rattle.message.specs.Seen.{heldAt, heldSeen, bodiesSeen, kindSeen}
 
 two-not : (n k : ℕ) → k < 2 → eqb (suc (suc n)) k ≡ false

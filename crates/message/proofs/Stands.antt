@@ -17,7 +17,7 @@ use Rattle.sheet.proofs.While.{take-while, while-inside}
 use Rattle.outline.specs.Rows.{ccyAt, insideAt, hasText, textAt}
 use Rattle.outline.specs.Paths.{charactersOf}
 use Rattle.message.specs.Fields.{Field, fieldsMost}
-use Rattle.message.specs.Good.{Held, missing, once, doubled}
+use Rattle.message.specs.Held.{Held, missing, once, doubled}
 use Rattle.message.specs.Message.{textIn, startIn, lengthIn, numbered, messageFrom}
 use Rattle.message.specs.Received.{byNumber, shownIn}
 use Rattle.message.specs.Seen.{heldAt}

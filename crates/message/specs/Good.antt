@@ -12,7 +12,6 @@ use Rattle.shape.specs.Fields.{codeOf, isAmount, isIban, isIdentifier, namesPac
 use Rattle.shape.specs.Stored.{isUetr}
 use Rattle.shape.specs.declared.value.Value.{Value}
 use Rattle.shape.specs.declared.value.Value.the-variants.{Of, None}
-use Rattle.outline.specs.Rows.{Row}
 use Rattle.outline.specs.Paths.{charactersOf}
 use Rattle.table.specs.declared.Kind.{Kind}
 use Rattle.table.specs.declared.Kind.the-variants.{Pacs008, Camt050, Pacs028}
@@ -21,17 +20,7 @@ use Rattle.message.specs.declared.kinds.Shape.the-variants.{Identifier, 
 use Rattle.message.specs.declared.kinds.Ccy.{Ccy}
 use Rattle.message.specs.declared.kinds.Ccy.the-variants.{Absent, Any, Hryvnia}
 use Rattle.message.specs.Fields.{Field, fieldsOf}
-
--- what stands at a field's path: nothing; one element, with its Ccy, where its content begins, and its text; or more than one
-pub data Held : Type 0 where
-  missing : Held
-  once : Option (List ℕ) → ℕ → Option (List ℕ) → Held
-  doubled : Held
-
-unfoldable pub heldIn : List Row → Held
-heldIn [] = missing
-heldIn (row ∷ []) = once (row .ccy) (row .inside) (row .text)
-heldIn (row ∷ second ∷ rows) = doubled
+use Rattle.message.specs.Held.{Held, missing, once, doubled}
 
 -- a value is given
 abbrev pub isGiven : Value → Bool

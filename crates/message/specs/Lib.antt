@@ -1,4 +1,5 @@
 pub mod Fields
+pub mod Held
 pub mod Good
 pub mod Message
 pub mod Received

@@ -10,12 +10,18 @@ use Rattle.outline.specs.Paths.{standing}
 use Rattle.table.specs.declared.Kind.{Kind}
 use Rattle.message.specs.declared.kinds.Body.the-variants.{Of, Unknown}
 use Rattle.message.specs.declared.Answer.{Answer}
-use Rattle.message.specs.declared.Answer.the-variants.{BadField, Good}
+use Rattle.message.specs.declared.Answer.the-variants.{IllFormed, BadField, Good}
 use Rattle.message.specs.Fields.{Field, fieldsOf}
-use Rattle.message.specs.Good.{heldIn, isGood, goesWith}
+use Rattle.message.specs.Held.{heldIn, kindOf, heldOf}
+use Rattle.message.specs.Good.{isGood, goesWith}
 use Rattle.message.specs.Message.{messageOf}
-use Rattle.message.specs.Received.{kindOf, heldOf}
 use Rattle.message.specs.Seen.{noField}
+
+-- the number of an answer in the table of refusals, and its detail: the place, the field
+abbrev pub numberOf : Answer → ℕ × ℕ
+numberOf (IllFormed place) = (7, place)
+numberOf (BadField number) = (8, number)
+numberOf (Good message) = (0, 0)
 
 -- by itself a field is neither missing, unless it may be, nor doubled nor ill-shaped
 abbrev pub fine : List Row → Field → Bool

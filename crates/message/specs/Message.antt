@@ -17,7 +17,7 @@ use Rattle.message.specs.declared.Name.{Name}
 use Rattle.message.specs.declared.Agent.{Agent}
 use Rattle.message.specs.declared.Message.{Message}
 use Rattle.message.specs.Fields.{numbersOf}
-use Rattle.message.specs.Good.{Held, missing, once, doubled}
+use Rattle.message.specs.Held.{Held, missing, once, doubled}
 
 -- what an element that stands once holds: its text's characters, its Ccy, where its text begins and how long it is
 unfoldable pub textIn : Held → List ℕ

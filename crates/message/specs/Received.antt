@@ -1,51 +1,22 @@
 -- What a sheet is received as: a refusal by 7 or 8, or the message, with the place of each field's text by the field's number.
 use mathlib.Core.Bool.{cond}
 use mathlib.Core.List.{List, [], _∷_, _++_, map}
-use mathlib.Core.Path.{_≡_}
 use Prim.Native.Nat.{ℕ, _-_}
 use lib.Dec.{eqb, leb}
 use lib.ListN.{length, getD, replicate}
 use Rattle.sheet.specs.Answer.{Reading, accepted, refused, readingOf}
 use Rattle.sheet.specs.Reader.{shownAt}
 use Rattle.outline.specs.Rows.{Row, rowsOf}
-use Rattle.outline.specs.Paths.{samePath, standing, atDepth}
 use Rattle.table.specs.declared.Kind.{Kind}
-use Rattle.table.specs.declared.Kind.the-variants.{Pacs008, Camt050, Pacs028}
 use Rattle.message.specs.declared.kinds.Body.{Body}
 use Rattle.message.specs.declared.kinds.Body.the-variants.{Of, Unknown}
 use Rattle.message.specs.declared.Answer.{Answer}
 use Rattle.message.specs.declared.Answer.the-variants.{IllFormed, BadField, Good}
 use Rattle.message.specs.declared.Received.{Received}
-use Rattle.message.specs.Fields.{Field, fieldsOf, bodyOf, fieldsMost}
-use Rattle.message.specs.Good.{Held, heldIn, lowestBad}
+use Rattle.message.specs.Fields.{fieldsMost}
+use Rattle.message.specs.Held.{Held, kindOf, heldOf}
+use Rattle.message.specs.Good.{lowestBad}
 use Rattle.message.specs.Message.{textIn, startIn, lengthIn, numbered, messageOf}
-
--- the number of an answer in the table of refusals, and its detail: the place, the field
-abbrev pub numberOf : Answer → ℕ × ℕ
-numberOf (IllFormed place) = (7, place)
-numberOf (BadField number) = (8, number)
-numberOf (Good message) = (0, 0)
-
--- the kind that a path names
-unfoldable pub kindNamed : List (List ℕ) → Body
-kindNamed path =
-    cond (samePath path (bodyOf Pacs008)) (Of Pacs008)
-    (cond (samePath path (bodyOf Camt050)) (Of Camt050)
-    (cond (samePath path (bodyOf Pacs028)) (Of Pacs028)
-    Unknown))
-
--- the outer element is Document and its only child names the kind
-unfoldable pub onlyKind : List Row → Body
-onlyKind [] = Unknown
-onlyKind (row ∷ []) = kindNamed (row .path)
-onlyKind (row ∷ second ∷ rows) = Unknown
-
-unfoldable pub kindOf : List Row → Body
-kindOf rows = onlyKind (atDepth 2 rows)
-
--- what each field of a kind holds. Elements at no field's path are ignored
-unfoldable pub heldOf : Kind → List Row → List Held
-heldOf kind rows = map (λ (f : Field). heldIn (standing (f .path) rows)) (fieldsOf kind)
 
 -- by the number of a field: at 0, and behind the last field, 0
 abbrev pub byNumber : List ℕ → List ℕ

@@ -15,7 +15,7 @@ use Rattle.message.specs.declared.kinds.Entry.{Entry}
 use Rattle.message.specs.declared.kinds.Body.{Body}
 use Rattle.message.specs.declared.kinds.Body.the-variants.{Of, Unknown}
 use Rattle.message.specs.Fields.{Field, fieldsOf, bodyOf}
-use Rattle.message.specs.Good.{Held, missing, once, doubled}
+use Rattle.message.specs.Held.{Held, missing, once, doubled}
 
 -- a field as the code's table has it
 abbrev pub noField : Field
