@@ -1,6 +1,7 @@
 pub mod Absent
 pub mod Amounts
 pub mod Built
+pub mod Due
 pub mod Entries
 pub mod FieldShown
 pub mod Filled

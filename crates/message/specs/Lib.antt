@@ -5,3 +5,4 @@ pub mod Message
 pub mod Received
 pub mod Seen
 pub mod Lowest
+pub mod Due

@@ -1,4 +1,5 @@
 -- What a sheet is received as: a refusal by 7 or 8, or the message, with the place of each field's text by the field's number.
+-- It works the answer out; that the answer is what the sheet is due by `Due`, and nothing else, is the theorem of `proofs/Due.antt`.
 use mathlib.Core.Bool.{cond}
 use mathlib.Core.List.{List, [], _∷_, _++_, map}
 use Prim.Native.Nat.{ℕ, _-_}

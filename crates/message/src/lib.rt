@@ -1,7 +1,7 @@
 // The message that a sheet is: its kind and its fields, or the refusal by 7 or 8. Document 01, "Fields".
 // It knows nothing of rooms, participants and checks. The tables of fields stand in `specs/Fields.antt`, what the rows of a sheet say in
-// `specs/Held.antt`, when a field is bad in `specs/Good.antt`, what a message is in `specs/Message.antt`, and the answer in
-// `specs/Received.antt`.
+// `specs/Held.antt`, when a field is bad in `specs/Good.antt`, what a message is in `specs/Message.antt`, what a sheet is due as
+// an answer in `specs/Due.antt`, and how the answer is worked out in `specs/Received.antt`.
 
 mod fit;
 mod kinds;

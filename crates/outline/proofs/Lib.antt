@@ -3,6 +3,7 @@ pub mod Contents
 pub mod Gathered
 pub mod GoodParts
 pub mod Named
+pub mod OfSheet
 pub mod OfTree
 pub mod Opened
 pub mod Paths

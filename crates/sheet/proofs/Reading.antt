@@ -1,7 +1,7 @@
 -- The machine's answer is the grammar's, and the grammar has only one.
 -- Assumes nothing.
 use mathlib.Core.Path.{_≡_, refl, ap, sym, subst, _∙_}
-use mathlib.Core.Bool.{Bool, true, false, cond}
+use mathlib.Core.Bool.{Bool, true, false, cond, false≢true}
 use mathlib.Core.List.{List}
 use Prim.Native.Nat.{ℕ, _≤_, _<_}
 use native.Mathlib.Omega.{arith}
@@ -40,7 +40,7 @@ abbrev answer : Element → Reading
 answer e = accepted (countOf e) (placed (startsFrom e 0)) (placed (depthsFrom e 1))
 
 -- two trees of one sheet are one
-same-tree : (s : List ℕ) (w v : WellFormed s) → w .tree ≡ v .tree
+pub same-tree : (s : List ℕ) (w v : WellFormed s) → w .tree ≡ v .tree
 same-tree s w v = unambiguous (w .tree) (v .tree) (w .good .parts) (v .good .parts) (sym (w .written) ∙ v .written)
 
 -- and there is only one right answer
@@ -57,3 +57,20 @@ right-only s a b (broken k m not-formed inside front further) (long l) = absurd 
 right-only s a b (long l) (whole w m) = absurd (omega arith)
 right-only s a b (long l) (broken k m not-formed inside front further) = absurd (omega arith)
 right-only s a b (long l) (long m) = refl
+
+-- so a sheet is refused at one place, and what a good tree is written as, where it is not too long, at none
+placeOf : Reading → ℕ
+placeOf (accepted n starts depths) = 0
+placeOf (refused k) = k
+
+isAccepted : Reading → Bool
+isAccepted (accepted n starts depths) = true
+isAccepted (refused k) = false
+
+pub one-place : (s : List ℕ) (k j : ℕ) → Right s (refused k) → Right s (refused j) → k ≡ j
+unfolding placeOf
+one-place s k j r t = ap placeOf (right-only s (refused k) (refused j) r t)
+
+pub formed-not-refused : (s : List ℕ) (w : WellFormed s) → length s ≤ sheetMost → (k : ℕ) → Right s (refused k) → ⊥
+unfolding isAccepted
+formed-not-refused s w l k r = false≢true (ap isAccepted (right-only s (refused k) (answer (w .tree)) r (whole w l)))
