@@ -11,8 +11,8 @@ use Rattle.seat.specs.declared.calls.Limit.the-variants.{None}
 use Rattle.strike.specs.Strike.{events}
 use Rattle.centre.specs.Answers.{Told, done, refused, isDone, behind}
 use Rattle.centre.specs.Calls.{setIn, setTold, setAfter}
-use Rattle.demands.specs.Calls.{Call, under, takeBack, actTold, callTold, actRoom, callRoom, actSlip, callSlip}
-use Rattle.demands.specs.Seats.{newRoom, Answer, answerOf, centre}
+use Rattle.demands.specs.Calls.{Call, under, takeBack, actTold, callTold, actRoom, callRoom, actSlip, callSlip, newRoom}
+use Rattle.demands.specs.Seats.{Answer, answerOf, centre}
 use Rattle.cases.specs.Cases.{directory, begin, ticket, moves, wish, sets, values, refusal, unslipped, accepted, Case, played, case11}
 use Rattle.cases.proofs.Opened.{opened}
 

@@ -24,8 +24,8 @@ use Rattle.seat.specs.declared.calls.Limit.the-variants.{Of, None}
 use Rattle.strike.specs.Strike.{events}
 use Rattle.centre.specs.declared.Ticket.{Ticket}
 use Rattle.centre.specs.Answers.{Told, done, refused, refusedWith}
-use Rattle.demands.specs.Calls.{Act, close, set, submit, takeBack, read, Call, opening, under, writing, reading}
-use Rattle.demands.specs.Seats.{newRoom, Answer, centre}
+use Rattle.demands.specs.Calls.{Act, close, set, submit, takeBack, read, Call, opening, under, writing, reading, newRoom}
+use Rattle.demands.specs.Seats.{Answer, centre}
 use Rattle.cases.specs.Sheets.{camt050, pacs008, pacs028}
 
 -- two owners, an indirect branch of the first and a direct branch of the second, all instant

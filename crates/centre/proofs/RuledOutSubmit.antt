@@ -1,5 +1,5 @@
--- What the contract of submit rules out: that it refuses by 12 a message that fails no check, that it is done without a step, and that the slip it
--- writes has another step number than the step. Slips whose values fit their fields have the same five bytes only where they are the same.
+-- What the contract of submit rules out: that it refuses by 12 a message that fails no check or records it as RJCT, that it is done without a step
+-- or without a slip, and that the slip it writes has another step number than the step. Slips whose values fit their fields have the same five bytes only where they are the same.
 -- Assumes nothing.
 use mathlib.Core.Path.{_≡_, refl, sym, ap, _∙_}
 use mathlib.Core.Bool.{Bool, true, false, _&&_, _||_, not, cond, false≢true}
@@ -14,7 +14,10 @@ use Rattle.shape.specs.Dates.{isDate}
 use Rattle.shape.proofs.Bits.{Small, cut-joined, joined-cut, joined-small}
 use Rattle.shape.proofs.Tests.{and-left, and-right}
 use Rattle.slip.specs.declared.Slip.{Slip}
-use Rattle.slip.specs.Meaning.{slipLong, steps, isSlip}
+use Rattle.table.specs.declared.Kind.{Kind}
+use Rattle.table.specs.declared.Kind.the-variants.{Pacs008, Camt050, Pacs028}
+use Rattle.slip.specs.declared.Status.the-variants.{Rjct}
+use Rattle.slip.specs.Meaning.{slipLong, steps, isSlip, statusNumber}
 use Rattle.slip.specs.Image.{fieldsOf, byteWidths, values, slipNumber, image, slipIn, slipOf as slipRead}
 use Rattle.slip.specs.Answers.{canWrite}
 use Rattle.slip.proofs.Small.{slip-small}
@@ -26,22 +29,30 @@ use Rattle.message.specs.Lowest.{numberOf}
 use Rattle.directory.specs.declared.Participant.{Participant}
 use Rattle.directory.specs.Directory.{codeMost, isFit}
 use Rattle.layout.specs.declared.rows.Step.{Step}
-use Rattle.layout.specs.Seat.{headOf, seatOf, withSeat}
+use Rattle.layout.specs.Seat.{seatLong, headOf, stepOf, seatOf, withSeat}
+use Rattle.layout.proofs.Rooms.{seat-got}
 use Rattle.journal.specs.declared.results.Outcome.{Outcome}
+use Rattle.journal.specs.Steps.{stepFits}
 use Rattle.journal.specs.Working.{stepped}
-use Rattle.seat.specs.Fit.{roomFits}
+use Rattle.journal.proofs.Backed.{possible-fits}
+use Rattle.journal.proofs.Changed.{stepped-length, stepped-last}
+use Rattle.seat.specs.Fit.{openFits, roomFits}
+use Rattle.seat.proofs.Answered.{ticket-good}
+use Rattle.seat.proofs.Kept.{fit-long, fit-open}
+use Rattle.seat.proofs.Rooms.{room-long}
 use Rattle.judge.specs.declared.case.Case.{Case}
 use Rattle.judge.specs.Case.{Arises, caseOf}
 use Rattle.judge.specs.declared.case.Movement.{Movement}
 use Rattle.judge.specs.Rows.{askedAfter, movementIn}
-use Rattle.judge.specs.Verdict.{verdict, toldOf, endOf, outcome, stepMade, judgedStep}
+use Rattle.judge.specs.Verdict.{verdict, transferred, toldOf, endOf, outcome, stepMade, judgedStep}
+use Rattle.judge.proofs.Possible.{judged-possible}
 use Rattle.centre.specs.declared.Answer.the-variants.{Done, NotTaken}
 use Rattle.centre.specs.declared.Ticket.{Ticket}
 use Rattle.centre.specs.Answers.{Told, told, done, refused, refusedWith, isDone}
 use Rattle.centre.specs.Calls.{ticketBad}
 use Rattle.centre.specs.Submit.{verdictOn, notTaken, stepOn, slipOf, submitTold, submitAfter, submitSlip}
 use Rattle.centre.proofs.First.{behind-done}
-use Rattle.centre.proofs.Judged.{slip-asks}
+use Rattle.centre.proofs.Judged.{not-one, not-two, slip-asks}
 use Rattle.centre.proofs.Passes.{AllPass, all-passed, step-counted}
 use Rattle.centre.proofs.Submitted.{Passed, can-judge, ticket-seat}
 
@@ -93,6 +104,17 @@ good-message (IllFormed place) p q f = false≢true (sym p)
 good-message (BadField number) p q f = false≢true (sym q)
 good-message (Good m) p q f = f m refl
 
+-- a transfer that passes every check does not end as RJCT
+passed-end : (kind : Kind) (told : Outcome) → (kind ≡ Pacs028 → ⊥) → endOf kind 0 told .status ≡ statusNumber Rjct → ⊥
+unfolding endOf transferred statusNumber
+passed-end Pacs008 told transfers e = omega (arith, e)
+passed-end Camt050 told transfers e = omega (arith, e)
+passed-end Pacs028 told transfers e = transfers refl
+
+accepted-only : (c : Case) (s : List ℕ) → verdict c s ≡ 0 → (c .message .kind ≡ Pacs028 → ⊥) → outcome c s .status ≡ statusNumber Rjct → ⊥
+unfolding outcome
+accepted-only c s none transfers e = passed-end (c .message .kind) (toldOf (askedAfter c s) s) transfers (rw none at e)
+
 module _ (dir : List Participant) (ticket : Ticket) (sender today : ℕ) (sheet slip room : List ℕ) where
   abbrev seatHere : List ℕ
   seatHere = seatOf room (ticket .seat)
@@ -116,10 +138,9 @@ module _ (dir : List Participant) (ticket : Ticket) (sender today : ℕ) (sheet 
   abbrev failed : ℕ
   failed = verdictOn (caseOf dir sender today) answerHere seatHere
 
-  pub rejects-all : verdictOn (caseOf dir sender today) (receivedOf sheet .answer) (seatOf room (ticket .seat)) ≡ 0
-      → (k : ℕ) → told (NotTaken k) ≡ submitTold dir ticket sender today sheet slip room → ⊥
+  refuses-all : failed ≡ 0 → (k : ℕ) → told (NotTaken k) ≡ submitTold dir ticket sender today sheet slip room → ⊥
   unfolding told submitTold notTaken
-  rejects-all h k e =
+  refuses-all h k e =
       let last = all-passed (submitTests []) (cond (notTaken failed) (refusedWith 12 failed) (done [])) (told (NotTaken k)) refl e .1 in
       let over : told (NotTaken k) ≡ done [] = rw h at last in
       let none : _≡_ {A = ℕ} 12 0 = ap (λ (t : Told). t .number) over in
@@ -144,10 +165,8 @@ module _ (dir : List Participant) (ticket : Ticket) (sender today : ℕ) (sheet 
         behind-done (submitTold dir ticket sender today sheet slip room)
         (withSeat room (ticket .seat) (stepped (stepOn (caseOf dir sender today) answerHere seatHere) seatHere)) room over
 
-    pub writes-nothing : room ≡ submitAfter dir ticket sender today sheet slip room → ⊥
-    writes-nothing same =
-        step-counted room (ticket .seat) (stepOn (caseOf dir sender today) answerHere seatHere) fit (ticket-seat ticket room (tests .1 .1 .0))
-        (same ∙ submit-made)
+    abbrev slipHere : Slip
+    slipHere = slipOf ticket (suc (headOf seatHere .steps)) (stepOn (caseOf dir sender today) answerHere seatHere)
 
     slip-made : submitSlip dir ticket sender today sheet slip room
         ≡ image (slipOf ticket (suc (headOf seatHere .steps)) (stepOn (caseOf dir sender today) answerHere seatHere)) ++ drop slipLong slip
@@ -155,6 +174,15 @@ module _ (dir : List Participant) (ticket : Ticket) (sender today : ℕ) (sheet 
     slip-made =
         behind-done (submitTold dir ticket sender today sheet slip room)
         (image (slipOf ticket (suc (headOf seatHere .steps)) (stepOn (caseOf dir sender today) answerHere seatHere)) ++ drop slipLong slip) slip over
+
+    -- a centre that writes nothing: it is done and leaves the room, or leaves a buffer that does not hold this very slip already
+    pub writes-nothing : (room ≡ submitAfter dir ticket sender today sheet slip room → ⊥)
+        × ((take slipLong slip ≡ image slipHere → ⊥) → slip ≡ submitSlip dir ticket sender today sheet slip room → ⊥)
+    writes-nothing = (
+      λ same. step-counted room (ticket .seat) (stepOn (caseOf dir sender today) answerHere seatHere) fit (ticket-seat ticket room (tests .1 .1 .0))
+          (same ∙ submit-made),
+      λ other same. other (ap (λ (b : List ℕ). take slipLong b) (same ∙ slip-made) ∙ image-first slipHere (drop slipLong slip)),
+    )
 
     all-right : Passed (isFit dir) ticket sender today slip room
     all-right = record {
@@ -203,6 +231,26 @@ module _ (dir : List Participant) (ticket : Ticket) (sender today : ℕ) (sheet 
           rw (f, ← add-one (headOf seatHere .steps))
           (and-right (leb slipLong (length slip)) (isSlip (slipOf ticket (headOf seatHere .steps + 1) (judgedStep caseHere seatHere))) can-write)
 
+      -- the step that is stored is that of the outcome
+      step-stored : stepOf (seatOf (submitAfter dir ticket sender today sheet slip room) (ticket .seat)) (headOf seatHere .steps) .status
+          ≡ outcome caseHere seatHere .status
+      unfolding stepOn judgedStep stepMade notTaken
+      step-stored =
+          let x : Step = judgedStep caseHere seatHere in
+          let can = can-judge all-right (caseOf dir sender today) answerHere m f arises caseHere refl seatHere refl in
+          let long : length seatHere ≡ seatLong = fit-long seatHere (can .0) in
+          let opened : openFits seatHere ≡ true = fit-open seatHere (can .0) (ticket-good (ticket .opening) seatHere (can .1) .0) in
+          let fits : stepFits x ≡ true =
+          possible-fits x seatHere
+          (judged-possible caseHere seatHere arises long opened (not-one (verdict caseHere seatHere) not-refused)
+          (not-two (verdict caseHere seatHere) not-refused)) in
+          let made : submitAfter dir ticket sender today sheet slip room ≡ withSeat room (ticket .seat) (stepped x seatHere) =
+          submit-made ∙ ap (λ (a : Answer). withSeat room (ticket .seat) (stepped (stepOn (caseOf dir sender today) a seatHere) seatHere)) f in
+          ap (λ (r : List ℕ). stepOf (seatOf r (ticket .seat)) (headOf seatHere .steps) .status) made
+          ∙ ap (λ (t : List ℕ). stepOf t (headOf seatHere .steps) .status)
+          (seat-got room (ticket .seat) (stepped x seatHere) (room-long room fit) (can .2) (stepped-length x seatHere long fits (can .3)))
+          ∙ ap (λ (y : Step). y .status) (stepped-last x seatHere long fits (can .3))
+
     pub invented-step-number : (n : ℕ) → (n ≡ suc (headOf seatHere .steps) → ⊥)
         → image (slipOf ticket n (stepOn (caseOf dir sender today) answerHere seatHere)) ++ drop slipLong slip ≡ submitSlip dir ticket sender today sheet slip room
         → n ≤ steps → ⊥
@@ -211,3 +259,19 @@ module _ (dir : List Participant) (ticket : Ticket) (sender today : ℕ) (sheet 
         (λ (m : Message) (f : answerHere ≡ Good m).
         h (same-number ticket (suc (headOf seatHere .steps)) n (stepOn (caseOf dir sender today) answerHere seatHere) (drop slipLong slip) (right-slip m f) low
         (written ∙ slip-made)))
+
+  -- a centre that rejects all: it refuses by 12 what passes every check, or records a transfer that does as RJCT
+  pub rejects-all : failed ≡ 0
+      → ((k : ℕ) → told (NotTaken k) ≡ submitTold dir ticket sender today sheet slip room → ⊥)
+      × ((m : Message) → answerHere ≡ Good m → (m .kind ≡ Pacs028 → ⊥) → told Done ≡ submitTold dir ticket sender today sheet slip room
+      → (left : List ℕ) → left ≡ submitAfter dir ticket sender today sheet slip room
+      → stepOf (seatOf left (ticket .seat)) (headOf seatHere .steps) .status ≡ statusNumber Rjct → ⊥)
+  unfolding verdictOn caseOf
+  rejects-all h = (
+    refuses-all h,
+    λ m good transfers e left same rejected.
+        let none : verdict (caseOf dir sender today m) seatHere ≡ 0 =
+        ap (λ (a : Answer). verdictOn (caseOf dir sender today) a seatHere) (sym good) ∙ h in
+        accepted-only (caseOf dir sender today m) seatHere none transfers
+        (sym (step-stored e m good) ∙ ap (λ (r : List ℕ). stepOf (seatOf r (ticket .seat)) (headOf seatHere .steps) .status) (sym same) ∙ rejected),
+  )

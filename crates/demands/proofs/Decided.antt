@@ -1,14 +1,13 @@
--- The check that a message fails by, read off the order of its kind: 0 where every check of the order passes, else the one that fails behind checks
--- that all pass. And what becomes of the message by that check.
+-- The check that a message fails by, read off the order of its kind: 0 exactly where every check of the order passes, else the one that fails after
+-- checks that all pass. And what becomes of the message by that check.
 -- Assumes nothing.
-use mathlib.Core.Path.{_≡_, refl, ap, _∙_}
-use mathlib.Core.Bool.{Bool, true, false, not}
-use mathlib.Core.List.{List, [], _∷_, _++_}
+use mathlib.Core.Path.{_≡_, refl, sym, ap, _∙_}
+use mathlib.Core.Bool.{Bool, true, false, not, _&&_, cond}
+use mathlib.Core.List.{List, [], _∷_, _++_, map}
 use Prim.Native.Nat.{ℕ, zero, suc, _≤_, _<_}
 use native.Mathlib.Omega.{arith}
-use borrow.Author.Tests.{not-true, ne-eqb}
+use borrow.Author.Tests.{ne-eqb}
 use Rattle.shape.specs.Bytes.{every}
-use Rattle.shape.proofs.Tests.{and-left, and-right}
 use Rattle.table.specs.declared.Kind.{Kind}
 use Rattle.table.specs.declared.Kind.the-variants.{Pacs008, Camt050, Pacs028}
 use Rattle.table.specs.Checks.{orderOf}
@@ -18,34 +17,63 @@ use Rattle.journal.specs.declared.results.Outcome.{Outcome}
 use Rattle.judge.specs.Rows.{askedAfter}
 use Rattle.judge.specs.Verdict.{fails, rowsOf, firstFailing, verdict, transferred, toldOf, answered, endOf, outcome, carried}
 use Rattle.centre.specs.Submit.{notTaken}
-use Rattle.demands.specs.Messages.{failedAs, passedAs}
+use Rattle.demands.specs.Refusals.{none, Exactly}
+use Rattle.demands.specs.Messages.{accepted, failedBy}
+use Rattle.demands.proofs.Firsts.{firstNumber, distinct, given-exactly, zero-exactly}
 
--- none of an order fails
-none-first : (failing : ℕ → Bool) (order : List ℕ) → every (λ (k : ℕ). not (failing k)) order ≡ true → firstFailing failing order ≡ 0
-unfolding firstFailing
-none-first failing [] e = refl
-none-first failing (k ∷ order) e =
-    let rest : Bool = every (λ (j : ℕ). not (failing j)) order in
-    rw (not-true (failing k) (and-left (not (failing k)) rest e)) (none-first failing order (and-right (not (failing k)) rest e))
+-- the checks of an order, each with whether it fails, are rows of a table: the first that fails is the number of the first row that applies
+abbrev rowsBy : (ℕ → Bool) → List ℕ → List (ℕ × Bool)
+rowsBy failing order = map (λ (k : ℕ). (k, failing k)) order
 
--- one fails, and none before it
-one-first : (failing : ℕ → Bool) (before : List ℕ) (k : ℕ) (behind : List ℕ) → every (λ (j : ℕ). not (failing j)) before ≡ true
-    → failing k ≡ true → firstFailing failing (before ++ (k ∷ behind)) ≡ k
+first-row : (failing : ℕ → Bool) (order : List ℕ) → firstFailing failing order ≡ firstNumber (rowsBy failing order)
 unfolding firstFailing
-one-first failing [] k behind e f = rw f
-one-first failing (j ∷ before) k behind e f =
-    let rest : Bool = every (λ (i : ℕ). not (failing i)) before in
-    rw (not-true (failing j) (and-left (not (failing j)) rest e)) (one-first failing before k behind (and-right (not (failing j)) rest e) f)
+first-row failing [] = refl
+first-row failing (k ∷ order) = ap (λ (n : ℕ). cond (failing k) k n) (first-row failing order)
+
+rows-pass : (failing : ℕ → Bool) (order : List ℕ) → none (rowsBy failing order) ≡ every (λ (k : ℕ). not (failing k)) order
+rows-pass failing [] = refl
+rows-pass failing (k ∷ order) = ap (λ (t : Bool). not (failing k) && t) (rows-pass failing order)
+
+rows-split : (failing : ℕ → Bool) (before : List ℕ) (k : ℕ) (later : List ℕ)
+    → rowsBy failing (before ++ (k ∷ later)) ≡ rowsBy failing before ++ ((k, failing k) ∷ rowsBy failing later)
+rows-split failing [] k later = refl
+rows-split failing (j ∷ before) k later = ap (λ (rows : List (ℕ × Bool)). (j, failing j) ∷ rows) (rows-split failing before k later)
+
+-- no check stands twice in an order, and none has the number 0
+rows-distinct : (failing : ℕ → Bool) (kind : Kind) → distinct (rowsBy failing (orderOf kind)) ≡ true
+unfolding orderOf
+rows-distinct failing Pacs008 = refl
+rows-distinct failing Camt050 = refl
+rows-distinct failing Pacs028 = refl
 
 module _ (c : Case) (s : List ℕ) where
-  pub verdict-none : every (λ (k : ℕ). not (fails c s k)) (orderOf (c .message .kind)) ≡ true → verdict c s ≡ 0
-  unfolding verdict
-  verdict-none e = none-first (fails c s) (orderOf (c .message .kind)) e
+  abbrev order : List ℕ
+  order = orderOf (c .message .kind)
 
-  pub verdict-first : (before : List ℕ) (k : ℕ) (behind : List ℕ) → orderOf (c .message .kind) ≡ before ++ (k ∷ behind)
-      → every (λ (j : ℕ). not (fails c s j)) before ≡ true → fails c s k ≡ true → verdict c s ≡ k
+  abbrev rows : List (ℕ × Bool)
+  rows = rowsBy (fails c s) order
+
+  by-rows : verdict c s ≡ firstNumber rows
   unfolding verdict
-  verdict-first before k behind o e f = ap (firstFailing (fails c s)) o ∙ one-first (fails c s) before k behind e f
+  by-rows = first-row (fails c s) order
+
+  -- the verdict is 0 exactly where every check of the order passes
+  pub verdict-none : Exactly (every (λ (k : ℕ). not (fails c s k)) order ≡ true) (verdict c s ≡ 0)
+  verdict-none =
+      let zero-rows = zero-exactly (verdict c s) rows (rows-distinct (fails c s) (c .message .kind)) by-rows in
+      (λ e. zero-rows .1 (rows-pass (fails c s) order ∙ e), λ e. sym (rows-pass (fails c s) order) ∙ zero-rows .0 e)
+
+  -- and a check of the order exactly where it fails and those before it pass
+  pub verdict-first : (before : List ℕ) (k : ℕ) (later : List ℕ) → order ≡ before ++ (k ∷ later)
+      → Exactly ((every (λ (j : ℕ). not (fails c s j)) before ≡ true) × (fails c s k ≡ true)) (verdict c s ≡ k)
+  verdict-first before k later split =
+      let one-row =
+      given-exactly (verdict c s) rows (rows-distinct (fails c s) (c .message .kind)) by-rows
+      (rowsBy (fails c s) before) k (fails c s k) (rowsBy (fails c s) later)
+      (ap (rowsBy (fails c s)) split ∙ rows-split (fails c s) before k later) in (
+        λ h. one-row .1 (h .1, rows-pass (fails c s) before ∙ h .0),
+        λ e. (sym (rows-pass (fails c s) before) ∙ one-row .0 e .1, one-row .0 e .0),
+      )
 
   -- no check has the number 0
   pub zero-passes : fails c s 0 ≡ false
@@ -68,15 +96,18 @@ pub high-taken : (k : ℕ) → 2 < k → notTaken k ≡ false
 unfolding notTaken
 high-taken k h = rw (ne-eqb k 1 (λ (e : k ≡ 1). omega arith), ne-eqb k 2 (λ (e : k ≡ 2). omega arith))
 
+-- how a message ends that passes every check: a transfer with ACCC and 0, a pacs.028 with what has become of the payment that it asks after
+abbrev pub passedAs : Kind → Case → List ℕ → Outcome
+passedAs Pacs008 c s = accepted
+passedAs Camt050 c s = accepted
+passedAs Pacs028 c s = toldOf (askedAfter c s) s
+
 -- a message that passes every check, and one that fails by one
 end-passed : (kind : Kind) (c : Case) (s : List ℕ) → endOf kind 0 (toldOf (askedAfter c s) s) ≡ passedAs kind c s
 unfolding endOf transferred answered
 end-passed Pacs008 c s = refl
 end-passed Camt050 c s = refl
 end-passed Pacs028 c s = refl
-
-abbrev pub failedBy : Kind → ℕ → Outcome
-failedBy kind k = record { status = statusNumber (failedAs kind); check = k }
 
 end-failed : (kind : Kind) (k : ℕ) → 2 < k → (c : Case) (s : List ℕ) → endOf kind k (toldOf (askedAfter c s) s) ≡ failedBy kind k
 unfolding endOf transferred answered

@@ -21,8 +21,8 @@ use Rattle.seat.proofs.Kept.{closed-head}
 use Rattle.strike.specs.Machine.{Deed, quiet, step, back, fresh}
 use Rattle.centre.specs.Answers.{isDone}
 use Rattle.centre.proofs.First.{behind-done, behind-refused}
-use Rattle.demands.specs.Calls.{close, set, submit, takeBack, read, Call, opening, under, writing, reading}
-use Rattle.demands.specs.Seats.{newRoom, Answer, callDeed, deedOf}
+use Rattle.demands.specs.Calls.{close, set, submit, takeBack, read, Call, opening, under, writing, reading, newRoom}
+use Rattle.demands.specs.Seats.{Answer, callDeed, deedOf}
 use Rattle.demands.proofs.InSeat.{actMakes, tells, makes, leaves}
 use Rattle.demands.proofs.DoneCalls.{OneStep, back-is-done, set-steps, submit-steps}
 use Rattle.demands.proofs.SeatKept.{step-undone}

@@ -39,12 +39,13 @@ pub record Facts (dir : List Participant) (ticket : Ticket) (sender today : ℕ)
   pub filled : eqb (numberOf (receivedOf sheet .answer) .0) 8 ≡ false
 
 module _ (dir : List Participant) (ticket : Ticket) (sender today : ℕ) (sheet slip room : List ℕ)
-    (heard : Heard dir ticket sender today sheet slip room) where
-  passed : (k : ℕ) → k < 11
-      → not (getD (take 11 (table dir room (under ticket (submit sender today sheet slip)))) k (0, false) .1) ≡ true
+    (heard : Heard dir ticket sender today sheet slip room (receivedOf sheet .answer)) where
+  abbrev rows : List (ℕ × Bool)
+  rows = take 11 (table dir room (receivedOf sheet .answer) (under ticket (submit sender today sheet slip)))
+
+  passed : (k : ℕ) → k < 11 → not (getD rows k (0, false) .1) ≡ true
   unfolding table
-  passed k h =
-      at-place (λ row. not (row .1)) (take 11 (table dir room (under ticket (submit sender today sheet slip)))) (0, false) heard k h
+  passed k h = at-place (λ row. not (row .1)) rows (0, false) heard k h
 
   pub facts : Facts dir ticket sender today sheet slip room
   unfolding table roomRefused directoryRefused ticketRefused numberRefused slipRefused

@@ -1,23 +1,37 @@
--- Demand 2, put together: a message that is heard is carried out where it passes every check, and otherwise answered by the first that fails.
+-- Demand 2, put together: a message that is heard is carried out exactly where it passes every check, and otherwise answered by the first that fails.
 -- Assumes nothing.
-use mathlib.Core.Path.{_≡_, sym, ap, subst, _∙_}
-use mathlib.Core.Bool.{true, false, not, false≢true}
-use mathlib.Core.List.{List, _∷_, _++_}
+use mathlib.Core.Path.{_≡_, refl, sym, ap, subst, _∙_}
+use mathlib.Core.Bool.{Bool, true, false, not, false≢true}
+use mathlib.Core.List.{List, [], _∷_, _++_}
 use Prim.Native.Nat.{ℕ, _≤_, _<_}
+use native.Mathlib.Omega.{arith}
+use lib.Dec.{leb, eqb}
+use borrow.Author.Tests.{eqb-true, eqb-false, leb-true, leb-false}
 use Rattle.shape.specs.Bytes.{every}
+use Rattle.table.specs.declared.Kind.{Kind}
+use Rattle.table.specs.declared.Kind.the-variants.{Pacs008, Camt050, Pacs028}
 use Rattle.table.specs.Checks.{orderOf}
+use Rattle.slip.specs.Meaning.{statusNumber}
 use Rattle.message.specs.declared.Message.{Message}
+use Rattle.message.specs.declared.Answer.{Answer}
 use Rattle.message.specs.declared.Answer.the-variants.{Good}
 use Rattle.message.specs.Received.{receivedOf}
+use Rattle.message.specs.Due.{Due}
+use Rattle.message.proofs.Due.{due-received}
 use Rattle.directory.specs.declared.Participant.{Participant}
 use Rattle.layout.specs.Seat.{seatOf}
+use Rattle.journal.specs.declared.results.Outcome.{Outcome}
 use Rattle.judge.specs.declared.case.Case.{Case}
 use Rattle.judge.specs.Case.{caseOf}
-use Rattle.judge.specs.Verdict.{fails, verdict, outcome, carried}
+use Rattle.judge.specs.Rows.{askedAfter}
+use Rattle.judge.specs.Verdict.{fails, verdict, toldOf, outcome, carried}
+use Rattle.judge.proofs.Ends.{told-apart}
 use Rattle.centre.specs.declared.Ticket.{Ticket}
-use Rattle.centre.specs.Answers.{refusedWith}
+use Rattle.centre.specs.Answers.{Told, done, refusedWith}
 use Rattle.centre.specs.Submit.{notTaken, submitTold, submitAfter, submitSlip}
-use Rattle.demands.specs.Messages.{passedAs, Heard, Recorded, Unmoved, MovedBy, Judged, Heeded, Demand2}
+use Rattle.centre.proofs.Judged.{not-one, not-two}
+use Rattle.demands.specs.Refusals.{Exactly}
+use Rattle.demands.specs.Messages.{accepted, failedBy, noMove, Heard, Recorded, Unmoved, Transferred, CarriedOut, FailedBy, Judged, Heeded, Demand2}
 use Rattle.demands.proofs.Decided.{
   verdict-none,
   verdict-first,
@@ -25,15 +39,22 @@ use Rattle.demands.proofs.Decided.{
   low-not-taken,
   none-taken,
   high-taken,
-  failedBy,
+  passedAs,
   outcome-passed,
   outcome-failed,
   failed-rests,
 }
 use Rattle.demands.proofs.Heard.{Facts, facts, Read, read-good}
-use Rattle.demands.proofs.Taken.{not-taken, recorded}
-use Rattle.demands.proofs.Money.{unmoved, passed-moves}
+use Rattle.demands.proofs.Taken.{seat-open, told-done, not-taken, Took, took}
+use Rattle.demands.proofs.Money.{rested, passed-carried}
 use Rattle.demands.proofs.Slips.{slips}
+
+-- ACCC is neither of the ends of a failing message
+accepted-apart : (kind : Kind) (k : ℕ) → accepted ≡ failedBy kind k → ⊥
+unfolding statusNumber
+accepted-apart Pacs008 k e = eqb-false 1 2 refl (ap (λ (o : Outcome). o .status) e)
+accepted-apart Camt050 k e = eqb-false 1 2 refl (ap (λ (o : Outcome). o .status) e)
+accepted-apart Pacs028 k e = eqb-false 1 0 refl (ap (λ (o : Outcome). o .status) e)
 
 module _ (dir : List Participant) (ticket : Ticket) (sender today : ℕ) (sheet slip room : List ℕ)
     (f : Facts dir ticket sender today sheet slip room) (m : Message) (good : receivedOf sheet .answer ≡ Good m) where
@@ -43,66 +64,127 @@ module _ (dir : List Participant) (ticket : Ticket) (sender today : ℕ) (sheet 
   abbrev place : List ℕ
   place = seatOf room (ticket .seat)
 
-  -- it passes every check
-  passes-all : every (λ (k : ℕ). not (fails case place k)) (orderOf (m .kind)) ≡ true → verdict case place ≡ 0
+  -- it passes every check exactly where its verdict is 0
+  passes-all : Exactly (every (λ (k : ℕ). not (fails case place k)) (orderOf (m .kind)) ≡ true) (verdict case place ≡ 0)
   unfolding caseOf
-  passes-all e = verdict-none case place e
+  passes-all = verdict-none case place
+
+  -- and check k is the first that it fails by exactly where that is its verdict
+  fails-first : (before : List ℕ) (k : ℕ) (later : List ℕ) → orderOf (m .kind) ≡ before ++ (k ∷ later)
+      → Exactly ((every (λ (j : ℕ). not (fails case place j)) before ≡ true) × (fails case place k ≡ true)) (verdict case place ≡ k)
+  unfolding caseOf
+  fails-first before k later split = verdict-first case place before k later split
 
   ends-passed : verdict case place ≡ 0 → outcome case place ≡ passedAs (m .kind) case place
   unfolding caseOf
   ends-passed none = outcome-passed case place none
 
-  carried-out : verdict case place ≡ 0
-      → Recorded dir ticket sender today sheet slip room (m .kind) (passedAs (m .kind) case place)
-      × MovedBy dir ticket sender today sheet slip room (m .kind) case
-  carried-out none = (
-    recorded dir ticket sender today sheet slip room f m good (ap notTaken none ∙ none-taken) (passedAs (m .kind) case place) (ends-passed none),
-    passed-moves dir ticket sender today sheet slip room f m good none,
-  )
-
-  -- or check k is the first that it fails by
-  fails-first : (before : List ℕ) (k : ℕ) (behind : List ℕ) → orderOf (m .kind) ≡ before ++ (k ∷ behind)
-      → every (λ (j : ℕ). not (fails case place j)) before ≡ true → fails case place k ≡ true → verdict case place ≡ k
+  ends-failed : (k : ℕ) → 2 < k → verdict case place ≡ k → outcome case place ≡ failedBy (m .kind) k
   unfolding caseOf
-  fails-first before k behind o e t = verdict-first case place before k behind o e t
+  ends-failed k high first = outcome-failed case place k high first
 
+  -- one that passes does not end as one that fails
+  apart : (kind : Kind) (k : ℕ) → 2 < k → passedAs kind case place ≡ failedBy kind k → ⊥
+  apart Pacs008 k high e = accepted-apart Pacs008 k e
+  apart Camt050 k high e = accepted-apart Camt050 k e
+  apart Pacs028 k high e =
+      told-apart case place (seat-open dir ticket sender today sheet slip room f m good) k (λ (z : k ≡ 0). omega arith) e
+
+  -- a verdict that is taken is 0 or a later check
+  taken-high : notTaken (verdict case place) ≡ false → (verdict case place ≡ 0 → ⊥) → 2 < verdict case place
+  taken-high takes some = omega (arith, some, not-one (verdict case place) takes, not-two (verdict case place) takes)
+
+  -- recorded as one that passes, it has passed
+  recorded-passed : notTaken (verdict case place) ≡ false → outcome case place ≡ passedAs (m .kind) case place → verdict case place ≡ 0
+  recorded-passed takes ended = go (eqb (verdict case place) 0) refl
+    where
+      go : (t : Bool) → eqb (verdict case place) 0 ≡ t → verdict case place ≡ 0
+      go true e = eqb-true (verdict case place) 0 e
+      go false e =
+          let high : 2 < verdict case place = taken-high takes (eqb-false (verdict case place) 0 e) in
+          absurd (apart (m .kind) (verdict case place) high (sym ended ∙ ends-failed (verdict case place) high refl))
+
+  -- carried out, it has passed
+  by-kind : (kind : Kind) → m .kind ≡ kind → CarriedOut dir ticket sender today sheet slip room kind m → verdict case place ≡ 0
+  by-kind kind same out = recorded-passed (ended kind out .takes) (ended kind out .ends ∙ ap (λ (k : Kind). passedAs k case place) (sym same))
+    where
+      ended : (kind : Kind) → CarriedOut dir ticket sender today sheet slip room kind m
+          → Took dir ticket sender today sheet slip room f m good (passedAs kind case place)
+      ended Pacs008 out = took dir ticket sender today sheet slip room f m good accepted (out .move) (out .recorded)
+      ended Camt050 out = took dir ticket sender today sheet slip room f m good accepted (out .move) (out .recorded)
+      ended Pacs028 out = took dir ticket sender today sheet slip room f m good (toldOf (askedAfter case place) place) noMove (out .0)
+
+  -- no check has the number 0
+  not-zero : (k : ℕ) → fails case place k ≡ true → k ≡ 0 → ⊥
+  not-zero k t z = false≢true (sym (zero-passes case place) ∙ subst (λ (n : ℕ). fails case place n ≡ true) z t)
+
+  -- check k is the first that it fails by
   module _ (k : ℕ) (first : verdict case place ≡ k) where
-    -- no check has the number 0
-    not-zero : fails case place k ≡ true → k ≡ 0 → ⊥
-    not-zero t z = false≢true (sym (zero-passes case place) ∙ subst (λ (n : ℕ). fails case place n ≡ true) z t)
-
     refused-low : fails case place k ≡ true → k ≤ 2
         → (submitTold dir ticket sender today sheet slip room ≡ refusedWith 12 k)
         × (submitAfter dir ticket sender today sheet slip room ≡ room)
         × (submitSlip dir ticket sender today sheet slip room ≡ slip)
     refused-low t low =
         let nothing =
-        not-taken dir ticket sender today sheet slip room f m good (ap notTaken first ∙ low-not-taken k low (not-zero t)) in
+        not-taken dir ticket sender today sheet slip room f m good (ap notTaken first ∙ low-not-taken k low (not-zero k t)) in
         (nothing .0 ∙ ap (refusedWith 12) first, nothing .1, nothing .2)
 
-    ends-failed : 2 < k → outcome case place ≡ failedBy (m .kind) k
-    unfolding caseOf
-    ends-failed high = outcome-failed case place k high first
-
-    failed-high : 2 < k → Recorded dir ticket sender today sheet slip room (m .kind) (failedBy (m .kind) k)
+    failed-high : 2 < k → Recorded dir ticket sender today sheet slip room m (failedBy (m .kind) k) noMove
         × Unmoved dir ticket sender today sheet slip room
     failed-high high =
-        let takes : notTaken (verdict case place) ≡ false = ap notTaken first ∙ high-taken k high in (
-          recorded dir ticket sender today sheet slip room f m good takes (failedBy (m .kind) k) (ends-failed high),
-          unmoved dir ticket sender today sheet slip room f m good takes
-              (ap (carried (m .kind)) (ends-failed high) ∙ failed-rests (m .kind) k),
-        )
+        rested dir ticket sender today sheet slip room f m good (ap notTaken first ∙ high-taken k high) (failedBy (m .kind) k)
+        (ends-failed k high first) (ap (carried (m .kind)) (ends-failed k high first) ∙ failed-rests (m .kind) k)
+
+  -- refused by check k, or recorded with it, it is the first that fails
+  refused-first : (k : ℕ) → submitTold dir ticket sender today sheet slip room ≡ refusedWith 12 k → verdict case place ≡ k
+  refused-first k e = go (notTaken (verdict case place)) refl
+    where
+      go : (t : Bool) → notTaken (verdict case place) ≡ t → verdict case place ≡ k
+      go true refuses =
+          ap (λ (t : Told). t .detail) (sym (not-taken dir ticket sender today sheet slip room f m good refuses .0) ∙ e)
+      go false takes =
+          let twelve : _≡_ {A = ℕ} 0 12 =
+          ap (λ (t : Told). t .number) (sym (told-done dir ticket sender today sheet slip room f m good takes) ∙ e) in
+          absurd (omega arith)
+
+  recorded-first : (k : ℕ) → 2 < k → Recorded dir ticket sender today sheet slip room m (failedBy (m .kind) k) noMove → verdict case place ≡ k
+  recorded-first k high r = go (eqb (verdict case place) 0) refl
+    where
+      ended : Took dir ticket sender today sheet slip room f m good (failedBy (m .kind) k)
+      ended = took dir ticket sender today sheet slip room f m good (failedBy (m .kind) k) noMove r
+
+      go : (t : Bool) → eqb (verdict case place) 0 ≡ t → verdict case place ≡ k
+      go true e = absurd (apart (m .kind) k high (sym (ends-passed (eqb-true (verdict case place) 0 e)) ∙ ended .ends))
+      go false e =
+          let later : 2 < verdict case place = taken-high (ended .takes) (eqb-false (verdict case place) 0 e) in
+          ap (λ (o : Outcome). o .check) (sym (ends-failed (verdict case place) later refl) ∙ ended .ends)
+
+  failed-first : (k : ℕ) → FailedBy dir ticket sender today sheet slip room m k → verdict case place ≡ k
+  failed-first k failed = go (leb k 2) refl
+    where
+      go : (t : Bool) → leb k 2 ≡ t → verdict case place ≡ k
+      go true e = refused-first k (failed .refuses (leb-true k 2 e) .0)
+      go false e = recorded-first k (leb-false k 2 e) (failed .records (leb-false k 2 e) .0)
 
   judged : Judged dir ticket sender today sheet slip room m
   judged = record {
-    carried = λ e. carried-out (passes-all e);
-    failed = λ before k behind o e t.
-        let first : verdict case place ≡ k = fails-first before k behind o e t in (refused-low k first t, failed-high k first);
+    carried = (
+      λ e. passed-carried dir ticket sender today sheet slip room f m good (passes-all .0 e),
+      λ out. passes-all .1 (by-kind (m .kind) refl out),
+    );
+    failed = λ before k later split. (
+      λ h.
+          let first : verdict case place ≡ k = fails-first before k later split .0 h in
+          record { refuses = refused-low k first (h .1); records = failed-high k first },
+      λ failed. fails-first before k later split .1 (failed-first k failed),
+    );
   }
 
-heeded : (dir : List Participant) (ticket : Ticket) (sender today : ℕ) (sheet slip room : List ℕ)
-    → Heard dir ticket sender today sheet slip room → Heeded dir ticket sender today sheet slip room
-heeded dir ticket sender today sheet slip room heard =
+-- of what a sheet is received as, and so of what it is due
+heeded-received : (dir : List Participant) (ticket : Ticket) (sender today : ℕ) (sheet slip room : List ℕ)
+    → Heard dir ticket sender today sheet slip room (receivedOf sheet .answer)
+    → Heeded dir ticket sender today sheet slip room (receivedOf sheet .answer)
+heeded-received dir ticket sender today sheet slip room heard =
     let f : Facts dir ticket sender today sheet slip room = facts dir ticket sender today sheet slip room heard in
     let read : Read (receivedOf sheet .answer) = read-good (receivedOf sheet .answer) (f .formed) (f .filled) in
     record {
@@ -110,6 +192,12 @@ heeded dir ticket sender today sheet slip room heard =
       good = read .good;
       judged = judged dir ticket sender today sheet slip room f (read .message) (read .good);
     }
+
+heeded : (dir : List Participant) (ticket : Ticket) (sender today : ℕ) (sheet slip room : List ℕ) (received : Answer) → Due sheet received
+    → Heard dir ticket sender today sheet slip room received → Heeded dir ticket sender today sheet slip room received
+heeded dir ticket sender today sheet slip room received due =
+    subst (λ (a : Answer). Heard dir ticket sender today sheet slip room a → Heeded dir ticket sender today sheet slip room a)
+    (due-received sheet received due) (heeded-received dir ticket sender today sheet slip room)
 
 pub demand2 : Demand2
 demand2 = (heeded, slips)

@@ -18,17 +18,18 @@ use Rattle.layout.specs.Seat.{accounts, accountOf, seatOf}
 use Rattle.judge.specs.declared.case.Case.{Case}
 use Rattle.judge.specs.Values.{orZero}
 use Rattle.judge.specs.Case.{movementOf, caseOf, Arises}
-use Rattle.judge.specs.Rows.{movementIn}
-use Rattle.judge.specs.Verdict.{verdict, outcome, carried, judgedStep}
+use Rattle.judge.specs.Rows.{askedAfter, movementIn}
+use Rattle.judge.specs.Verdict.{verdict, toldOf, outcome, carried, judgedStep}
+use Rattle.journal.specs.declared.results.Outcome.{Outcome}
 use Rattle.judge.proofs.Passed.{money-there}
 use Rattle.judge.proofs.Movements.{Movable, payment-moves, transfer-moves}
 use Rattle.centre.specs.declared.Ticket.{Ticket}
 use Rattle.centre.specs.Submit.{notTaken}
-use Rattle.demands.specs.Messages.{passedAs, Unmoved, Moved, MovedBy}
-use Rattle.demands.proofs.Decided.{none-taken, outcome-passed, asked-rests}
+use Rattle.demands.specs.Messages.{Move, noMove, accepted, Recorded, Unmoved, Transferred, CarriedOut}
+use Rattle.demands.proofs.Decided.{passedAs, none-taken, outcome-passed, asked-rests}
 use Rattle.demands.proofs.Heard.{Facts}
-use Rattle.demands.proofs.Taken.{arises, account-behind}
-use Rattle.demands.proofs.Movement.{rests, carries}
+use Rattle.demands.proofs.Taken.{arises, account-behind, recorded}
+use Rattle.demands.proofs.Movement.{moveIn, rests-still, rests, moves-so, carries}
 
 -- a transfer that passes is carried out
 payment-carried : (c : Case) (s : List ℕ) → carried Pacs008 (passedAs Pacs008 c s) ≡ true
@@ -57,12 +58,16 @@ module _ (dir : List Participant) (ticket : Ticket) (sender today : ℕ) (sheet 
   place = seatOf room (ticket .seat)
 
   -- nothing moves where the message is not carried out
-  pub unmoved : notTaken (verdict case place) ≡ false → carried (m .kind) (outcome case place) ≡ false
-      → Unmoved dir ticket sender today sheet slip room
+  pub rested : notTaken (verdict case place) ≡ false → (o : Outcome) → outcome case place ≡ o → carried (m .kind) (outcome case place) ≡ false
+      → Recorded dir ticket sender today sheet slip room m o noMove × Unmoved dir ticket sender today sheet slip room
   unfolding caseOf judgedStep
-  unmoved takes e i h =
-      account-behind dir ticket sender today sheet slip room f m good takes i h
-      ∙ rests case (movementIn case place) (outcome case place) e i (accountOf place i)
+  rested takes o ended e = (
+    recorded dir ticket sender today sheet slip room f m good takes o noMove ended
+        (rests-still case (movementIn case place) (outcome case place) e),
+    λ (i : ℕ) (h : i < accounts).
+        account-behind dir ticket sender today sheet slip room f m good takes i h
+        ∙ rests case (movementIn case place) (outcome case place) e i (accountOf place i),
+  )
 
   -- the amount that is moved is that of the message
   amount-moved : (given : IsAmount (m .amount)) → movementIn case place .amount ≡ given .kopecks
@@ -80,23 +85,25 @@ module _ (dir : List Participant) (ticket : Ticket) (sender today : ℕ) (sheet 
 
     -- a transfer that can be made and is carried out moves its amount
     moved : (kind : Kind) → m .kind ≡ kind → runs kind 22 ≡ true → Movable kind (movementIn case place) → IsAmount (m .amount)
-        → carried (m .kind) (outcome case place) ≡ true → Moved dir ticket sender today sheet slip room case
+        → outcome case place ≡ accepted → carried (m .kind) (outcome case place) ≡ true
+        → Transferred dir ticket sender today sheet slip room m
     unfolding caseOf judgedStep
-    moved kind same covers able given done =
+    moved kind same covers able given ended done =
+        let move : Move = record { debit = able .debit; credit = able .credit; amount = given .kopecks } in
         let sum : movementIn case place .amount ≡ given .kopecks = amount-moved given in
+        let stored : moveIn (judgedStep case place) ≡ move =
+        moves-so case (movementIn case place) (outcome case place) done move (able .debited) (able .credited) sum in
         record {
-          debit = able .debit;
-          credit = able .credit;
-          amount = given .kopecks;
+          move = move;
           debits = able .debited;
           credits = able .credited;
           amounts = given .given;
           there = subst (λ (n : ℕ). n ≤ accountOf place (able .debit) .balance) sum
               (money-there case place none kind same covers (able .debit) (able .debited) (able .debit-low));
-          moves = λ (i : ℕ) (h : i < accounts).
+          recorded = recorded dir ticket sender today sheet slip room f m good taken accepted move ended stored;
+          moved = λ (i : ℕ) (h : i < accounts).
               account-behind dir ticket sender today sheet slip room f m good taken i h
-              ∙ carries case (movementIn case place) (outcome case place) done (able .debit) (able .credit) (given .kopecks)
-              (able .debited) (able .credited) sum i (accountOf place i);
+              ∙ carries case (movementIn case place) (outcome case place) done move (able .debited) (able .credited) sum i (accountOf place i);
         }
 
     comes-up : Arises case
@@ -111,17 +118,17 @@ module _ (dir : List Participant) (ticket : Ticket) (sender today : ℕ) (sheet 
     kind-carried kind same done =
         ap (λ (k : Kind). carried k (outcome case place)) same ∙ ap (carried kind) (ends kind same) ∙ done
 
-    by-kind : (kind : Kind) → m .kind ≡ kind → MovedBy dir ticket sender today sheet slip room kind case
+    by-kind : (kind : Kind) → m .kind ≡ kind → CarriedOut dir ticket sender today sheet slip room kind m
     unfolding caseOf
     by-kind Pacs008 same =
-        moved Pacs008 same payment-covered (payment-moves case place comes-up none same) (amount-given Pacs008 same)
+        moved Pacs008 same payment-covered (payment-moves case place comes-up none same) (amount-given Pacs008 same) (ends Pacs008 same)
         (kind-carried Pacs008 same (payment-carried case place))
     by-kind Camt050 same =
-        moved Camt050 same transfer-covered (transfer-moves case place comes-up none same) (amount-given Camt050 same)
+        moved Camt050 same transfer-covered (transfer-moves case place comes-up none same) (amount-given Camt050 same) (ends Camt050 same)
         (kind-carried Camt050 same (transfer-carried case place))
     by-kind Pacs028 same =
-        unmoved taken
+        rested taken (toldOf (askedAfter case place) place) (ends Pacs028 same)
         (subst (λ (k : Kind). carried k (outcome case place) ≡ false) (sym same) (asked-rests (outcome case place)))
 
-    pub passed-moves : MovedBy dir ticket sender today sheet slip room (m .kind) case
-    passed-moves = by-kind (m .kind) refl
+    pub passed-carried : CarriedOut dir ticket sender today sheet slip room (m .kind) m
+    passed-carried = by-kind (m .kind) refl

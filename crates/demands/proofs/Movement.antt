@@ -22,7 +22,7 @@ use Rattle.journal.specs.declared.results.Outcome.{Outcome}
 use Rattle.judge.specs.Values.{orZero}
 use Rattle.judge.specs.Verdict.{carried, stepMade}
 use Rattle.judge.proofs.Possible.{no-set-kind, made-moves}
-use Rattle.demands.specs.Messages.{behindMove}
+use Rattle.demands.specs.Messages.{Move, noMove, afterMove}
 
 -- numbers compared either way
 either-way : (a b : ℕ) → eqb a b ≡ eqb b a
@@ -45,14 +45,19 @@ by-sides false true false n a one two = refl
 by-sides false false true n a one two = refl
 by-sides false false false n a one two = refl
 
-move-behind : (d e n i : ℕ) (a : Account)
-    → cond (eqb d e) (hit d i (turned n) a) (hit e i (credited n) (hit d i (debited n) a)) ≡ behindMove d e n i a
-move-behind d e n i a =
+move-after : (d e n i : ℕ) (a : Account)
+    → cond (eqb d e) (hit d i (turned n) a) (hit e i (credited n) (hit d i (debited n) a))
+    ≡ afterMove (record { debit = d; credit = e; amount = n }) i a
+move-after d e n i a =
     rw (either-way d i, either-way e i)
     (by-sides (eqb d e) (eqb i d) (eqb i e) n a
     (λ (q : eqb d e ≡ true). ap (eqb i) (eqb-true d e q))
     (λ (q : eqb d e ≡ false) (b : (eqb i d && eqb i e) ≡ true).
     eqb-false d e q (sym (eqb-true i d (and-left (eqb i d) (eqb i e) b)) ∙ eqb-true i e (and-right (eqb i d) (eqb i e) b))))
+
+-- the movement that a step stores
+abbrev pub moveIn : Step → Move
+moveIn x = record { debit = x .debit; credit = x .credit; amount = x .amount }
 
 -- the same of a step that is no set
 moves-nothing : (x : Step) (i : ℕ) (a : Account) → isKind setKind x ≡ false → moves x ≡ false → after x i a ≡ a
@@ -60,37 +65,30 @@ unfolding after
 moves-nothing x i a k n = rw (k, n)
 
 moves-amount : (x : Step) (i : ℕ) (a : Account) → isKind setKind x ≡ false → moves x ≡ true
-    → after x i a ≡ behindMove (x .debit) (x .credit) (x .amount) i a
+    → after x i a ≡ afterMove (moveIn x) i a
 unfolding after
-moves-amount x i a k n = rw (k, n) (move-behind (x .debit) (x .credit) (x .amount) i a)
+moves-amount x i a k n = rw (k, n) (move-after (x .debit) (x .credit) (x .amount) i a)
 
 module _ (c : Case) (m : Movement) (o : Outcome) where
   is-no-set : isKind setKind (stepMade c m o) ≡ false
   unfolding stepMade
   is-no-set = no-set-kind (c .message .kind)
 
-  -- not carried out
+  -- not carried out: it stores no movement, and nothing moves
+  pub rests-still : carried (c .message .kind) o ≡ false → moveIn (stepMade c m o) ≡ noMove
+  unfolding stepMade
+  rests-still e = rw e
+
   pub rests : carried (c .message .kind) o ≡ false → (i : ℕ) (a : Account) → after (stepMade c m o) i a ≡ a
   rests e i a = moves-nothing (stepMade c m o) i a is-no-set (made-moves c m o ∙ e)
 
-  -- carried out between two accounts
-  module _ (e : carried (c .message .kind) o ≡ true) (debit credit amount : ℕ) (from : m .debit ≡ Of debit)
-      (to : m .credit ≡ Of credit) (sum : m .amount ≡ amount) where
-    debit-is : stepMade c m o .debit ≡ debit
+  -- carried out between two accounts: it stores that movement, and so the accounts are
+  module _ (e : carried (c .message .kind) o ≡ true) (move : Move) (from : m .debit ≡ Of (move .debit))
+      (to : m .credit ≡ Of (move .credit)) (sum : m .amount ≡ move .amount) where
+    pub moves-so : moveIn (stepMade c m o) ≡ move
     unfolding stepMade orZero
-    debit-is = rw (e, from)
+    moves-so = rw (e, from, to, sum)
 
-    credit-is : stepMade c m o .credit ≡ credit
-    unfolding stepMade orZero
-    credit-is = rw (e, to)
-
-    amount-is : stepMade c m o .amount ≡ amount
-    unfolding stepMade
-    amount-is = rw (e, sum)
-
-    pub carries : (i : ℕ) (a : Account) → after (stepMade c m o) i a ≡ behindMove debit credit amount i a
+    pub carries : (i : ℕ) (a : Account) → after (stepMade c m o) i a ≡ afterMove move i a
     carries i a =
-        moves-amount (stepMade c m o) i a is-no-set (made-moves c m o ∙ e)
-        ∙ ap (λ (n : ℕ). behindMove n (stepMade c m o .credit) (stepMade c m o .amount) i a) debit-is
-        ∙ ap (λ (n : ℕ). behindMove debit n (stepMade c m o .amount) i a) credit-is
-        ∙ ap (λ (n : ℕ). behindMove debit credit n i a) amount-is
+        moves-amount (stepMade c m o) i a is-no-set (made-moves c m o ∙ e) ∙ ap (λ (x : Move). afterMove x i a) moves-so

@@ -21,8 +21,8 @@ use Rattle.seat.proofs.Kept.{fit-long, room-fits}
 use Rattle.seat.proofs.Rooms.{room-long, room-seat, room-keeps}
 use Rattle.strike.specs.Machine.{Deed, quiet, step, back, fresh, Laws}
 use Rattle.strike.proofs.Struck.{struck-out}
-use Rattle.demands.specs.Calls.{Call, callRoom}
-use Rattle.demands.specs.Seats.{newRoom, seatFor, deedOf, answerOf, alone, partIn, centre, Demand3}
+use Rattle.demands.specs.Calls.{Call, callRoom, newRoom}
+use Rattle.demands.specs.Seats.{seatFor, deedOf, answerOf, alone, partIn, centre, Demand3}
 use Rattle.demands.proofs.InSeat.{tells, writes, leaves}
 use Rattle.demands.proofs.OwnSeat.{own-answer, own-room, none-room}
 use Rattle.demands.proofs.SeatKept.{leaves-fit}

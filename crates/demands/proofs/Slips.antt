@@ -37,14 +37,14 @@ read-done : (bytes : List ℕ) → holdsSlip bytes ≡ true → readTold bytes �
 unfolding readTold
 read-done bytes e = rw e
 
--- the first five bytes of what is left are those of the slip
-five-first : (slip : Slip) (rest : List ℕ) → take slipLong (image slip ++ rest) ≡ image slip
+-- the first bytes of what is left are those of the slip
+pub slip-first : (slip : Slip) (rest : List ℕ) → take slipLong (image slip ++ rest) ≡ image slip
 unfolding image
-five-first slip rest = refl
+slip-first slip rest = refl
 
 written-image : (slip : Slip) (buffer : List ℕ) → canWrite slip buffer ≡ true → take slipLong (writeAfter slip buffer) ≡ image slip
 unfolding writeAfter
-written-image slip buffer e = rw e (five-first slip (drop slipLong buffer))
+written-image slip buffer e = rw e (slip-first slip (drop slipLong buffer))
 
 written-sound : (slip : Slip) (buffer : List ℕ) → canWrite slip buffer ≡ true → isSlip slip ≡ true
 unfolding canWrite
@@ -53,6 +53,10 @@ written-sound slip buffer e = and-right (leb slipLong (length buffer)) (isSlip s
 image-holds : (slip : Slip) → isSlip slip ≡ true → holdsSlip (image slip) ≡ true
 unfolding holdsSlip image
 image-holds slip e = rw (image-back slip e, e)
+
+-- the bytes of a slip are read as what it says
+pub image-read : (slip : Slip) → isSlip slip ≡ true → readTold (image slip) ≡ done (slipValues slip)
+image-read slip e = read-done (image slip) (image-holds slip e) ∙ ap (λ (x : Slip). done (slipValues x)) (image-back slip e)
 
 -- bytes that hold a slip
 holds-parts : (bytes : List ℕ) → holdsSlip bytes ≡ true → (length bytes ≡ slipLong) × (isSlip (slipOf bytes) ≡ true)
@@ -66,10 +70,7 @@ pub slips : Slips
 slips = record {
   back = λ (slip : Slip) (buffer : List ℕ) (e : writeTold slip buffer .number ≡ 0).
       let can : canWrite slip buffer ≡ true = written-can slip buffer e in
-      let sound : isSlip slip ≡ true = written-sound slip buffer can in
-      ap readTold (written-image slip buffer can)
-      ∙ read-done (image slip) (image-holds slip sound)
-      ∙ ap (λ (x : Slip). done (slipValues x)) (image-back slip sound);
+      ap readTold (written-image slip buffer can) ∙ image-read slip (written-sound slip buffer can);
   only = λ (bytes : List ℕ) (e : readTold bytes .number ≡ 0) (small : every (λ (b : ℕ). ltb b 256) bytes ≡ true).
       let holds : holdsSlip bytes ≡ true = read-holds bytes e in
       record {

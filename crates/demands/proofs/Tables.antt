@@ -36,6 +36,7 @@ use Rattle.demands.specs.Refusals.{
   lastRefused,
   numberRefused,
   slipRefused,
+  sheetIn,
   table,
   detailOf,
 }
@@ -82,12 +83,23 @@ tells {detail = detail} lines values same all =
 
 -- of each call: its lines are the rows of the table that concern it, in the same order; the other rows compute to false
 module _ (dir : List Participant) (room : List ℕ) where
-  pub table-distinct : (call : Call) → distinct (table dir room call) ≡ true
+  -- what the sheet of a call is received as
+  abbrev pub got : Call → Answer
+  got call = receivedOf (sheetIn call) .answer
+
+  -- the table of a call, and the details of its refusals
+  abbrev pub tableOf : Call → List (ℕ × Bool)
+  tableOf call = table dir room (got call) call
+
+  abbrev pub detailsOf : Call → ℕ → ℕ
+  detailsOf call = detailOf dir room (got call) call
+
+  pub table-distinct : (call : Call) → distinct (tableOf call) ≡ true
   unfolding table
   table-distinct call = refl
 
   act-tells : (ticket : Ticket) (act : Act)
-      → Tells (callTold dir (under ticket act) room) (table dir room (under ticket act)) (detailOf dir room (under ticket act))
+      → Tells (callTold dir (under ticket act) room) (tableOf (under ticket act)) (detailsOf (under ticket act))
   unfolding callTold actTold closeTold setTold submitTold backTold readTold table roomRefused directoryRefused ticketRefused openRefused lastRefused numberRefused slipRefused notTaken
   act-tells ticket close =
       tells ((not (roomFits room), refused 1) ∷ (ticketBad ticket room, refused 3) ∷ []) [] refl ((refl, refl), ((refl, refl), tt))
@@ -129,7 +141,7 @@ module _ (dir : List Participant) (room : List ℕ) where
       ∷ []) (accountRow (accountOf (seatOf room (ticket .seat)) (accountNumber (found dir owner) number))) refl
       ((refl, refl), ((refl, refl), ((refl, refl), ((refl, refl), tt))))
 
-  pub call-tells : (call : Call) → Tells (callTold dir call room) (table dir room call) (detailOf dir room call)
+  pub call-tells : (call : Call) → Tells (callTold dir call room) (tableOf call) (detailsOf call)
   unfolding callTold openTold writeTold slipTold table roomRefused directoryRefused ticketRefused openRefused lastRefused numberRefused slipRefused
   call-tells (opening seat sums) =
       tells (

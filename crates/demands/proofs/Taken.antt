@@ -2,30 +2,30 @@
 -- the seat can take, with its slip in the buffer.
 -- Assumes nothing.
 use mathlib.Core.Path.{_≡_, refl, sym, ap, subst, _∙_}
-use mathlib.Core.Bool.{true, false, false≢true}
+use mathlib.Core.Bool.{Bool, true, false}
 use mathlib.Core.List.{List, [], _++_}
-use Prim.Native.Nat.{ℕ, suc, _≤_, _<_}
+use Prim.Native.Nat.{ℕ, suc, _-_, _≤_, _<_}
 use native.Mathlib.Omega.{arith}
 use lib.Dec.{leb, eqb}
-use lib.ListN.{length, drop}
-use borrow.Author.Tests.{leb-true, eq-eqb, eqb-false}
+use lib.ListN.{length, take, drop}
+use borrow.Author.Tests.{le-leb, leb-true, eqb-false}
 use Rattle.shape.specs.Dates.{isDate}
-use Rattle.shape.proofs.Tests.{and-left, or-left, or-right}
-use Rattle.slip.specs.Meaning.{seats, steps, slipLong}
+use Rattle.shape.proofs.Tests.{and-left}
+use Rattle.slip.specs.declared.Slip.{Slip}
+use Rattle.slip.specs.Meaning.{seats, openings, steps, slipLong, kindNumber, says, isSlip}
 use Rattle.slip.specs.Image.{image}
 use Rattle.message.specs.declared.Message.{Message}
 use Rattle.message.specs.declared.Answer.the-variants.{Good}
 use Rattle.message.specs.Received.{receivedOf}
 use Rattle.directory.specs.declared.Participant.{Participant}
 use Rattle.directory.specs.Directory.{codeMost}
-use Rattle.layout.specs.declared.rows.Head.{Head}
 use Rattle.layout.specs.declared.rows.Step.{Step}
 use Rattle.layout.specs.Seat.{accounts, seatLong, headOf, accountOf, stepOf, seatOf, withSeat}
 use Rattle.layout.proofs.Rooms.{seat-got}
 use Rattle.journal.specs.Steps.{stepFits}
 use Rattle.journal.specs.Working.{stepped, covered, possible}
 use Rattle.journal.proofs.Backed.{possible-fits}
-use Rattle.journal.proofs.Changed.{after, stepped-length, stepped-head, stepped-last, stepped-account}
+use Rattle.journal.proofs.Changed.{after, stepped-length, stepped-head, stepped-last, stepped-other, stepped-account}
 use Rattle.seat.specs.Fit.{openFits, seatFits}
 use Rattle.seat.proofs.Answered.{ticket-good}
 use Rattle.seat.proofs.Forward.{open-fits}
@@ -35,14 +35,17 @@ use Rattle.judge.specs.declared.case.Case.{Case}
 use Rattle.journal.specs.declared.results.Outcome.{Outcome}
 use Rattle.judge.specs.Case.{caseOf, Arises}
 use Rattle.judge.specs.Verdict.{verdict, outcome, stepMade, judgedStep}
-use Rattle.judge.proofs.Possible.{judged-possible}
+use Rattle.judge.proofs.Possible.{judged-says, judged-possible}
 use Rattle.centre.specs.declared.Ticket.{Ticket}
-use Rattle.centre.specs.Answers.{done, refusedWith, isDone}
+use Rattle.centre.specs.Answers.{Told, done, refusedWith, slipValues, isDone}
 use Rattle.centre.specs.Submit.{verdictOn, notTaken, stepOn, slipOf, judgedTold, submitTold, submitAfter, submitSlip}
+use Rattle.centre.specs.Slips.{readTold}
 use Rattle.centre.proofs.First.{behind-done, behind-refused}
 use Rattle.centre.proofs.Judged.{done-refused, not-one, not-two}
-use Rattle.demands.specs.Messages.{Recorded, slipOf as slipBehind}
+use Rattle.demands.specs.Messages.{Move, slipSaid, stepStored, Recorded}
 use Rattle.demands.proofs.Heard.{Facts, seat-there, seat-own}
+use Rattle.demands.proofs.Movement.{moveIn}
+use Rattle.demands.proofs.Slips.{slip-first, image-read}
 
 -- an answer that is done, and one that is refused by 12
 done-done : isDone (done []) ≡ true
@@ -90,7 +93,7 @@ module _ (dir : List Participant) (ticket : Ticket) (sender today : ℕ) (sheet 
   pub seat-long : length place ≡ seatLong
   seat-long = fit-long place seat-fits
 
-  seat-open : openFits place ≡ true
+  pub seat-open : openFits place ≡ true
   seat-open = fit-open place seat-fits (ticket-good (ticket .opening) place (seat-own ticket room (f .ticketed)) .0)
 
   pub steps-low : headOf place .steps < steps
@@ -160,30 +163,104 @@ module _ (dir : List Participant) (ticket : Ticket) (sender today : ℕ) (sheet 
         (image (slipOf ticket (suc (headOf place .steps)) (stepOn (caseOf dir sender today) (receivedOf sheet .answer) place)) ++ drop slipLong slip) slip finished
         ∙ ap (λ (x : Step). image (slipOf ticket (suc (headOf place .steps)) x) ++ drop slipLong slip) step-made
 
-    slip-says : image (slipOf ticket (suc (headOf place .steps)) made) ++ drop slipLong slip
-        ≡ slipBehind dir ticket sender today sheet slip room (m .kind) (outcome case place)
+    -- what the slip says, by the step and by the outcome
+    said-so : slipOf ticket (suc (headOf place .steps)) made ≡ slipSaid dir ticket sender today sheet slip room m (outcome case place)
     unfolding slipOf judgedStep stepMade caseOf
-    slip-says = refl
+    said-so = refl
 
-    count-behind : headOf (seatOf (submitAfter dir ticket sender today sheet slip room) (ticket .seat)) .steps ≡ suc (headOf place .steps)
-    count-behind =
-        ap (λ (s : List ℕ). headOf s .steps) seat-behind
-        ∙ ap (λ (h : Head). h .steps) (stepped-head made place seat-long made-fits steps-low)
+    slip-left : submitSlip dir ticket sender today sheet slip room
+        ≡ image (slipSaid dir ticket sender today sheet slip room m (outcome case place)) ++ drop slipLong slip
+    slip-left = slip-made ∙ ap (λ (x : Slip). image x ++ drop slipLong slip) said-so
 
-    step-behind : stepOf (seatOf (submitAfter dir ticket sender today sheet slip room) (ticket .seat)) (headOf place .steps) ≡ made
-    step-behind = ap (λ (s : List ℕ). stepOf s (headOf place .steps)) seat-behind ∙ stepped-last made place seat-long made-fits steps-low
-
-    -- it is recorded with its outcome
-    outcome-recorded : Recorded dir ticket sender today sheet slip room (m .kind) (outcome case place)
+    -- it is a slip
+    says-so : says (kindNumber (m .kind)) (outcome case place .status) (outcome case place .check) ≡ true
     unfolding judgedStep stepMade caseOf
+    says-so = judged-says case place arises seat-open (not-one (verdict case place) takes) (not-two (verdict case place) takes)
+
+    opening-own : headOf place .opening ≡ ticket .opening
+    opening-own = ticket-good (ticket .opening) place (seat-own ticket room (f .ticketed)) .1
+
+    slip-sound : isSlip (slipSaid dir ticket sender today sheet slip room m (outcome case place)) ≡ true
+    unfolding isSlip
+    slip-sound =
+        let low : ticket .seat < seats = seat-low in
+        let few : headOf place .steps < steps = steps-low in
+        let fits = open-fits place seat-open in
+        rw (
+          says-so,
+          le-leb (ticket .seat) (seats - 1) (omega arith),
+          le-leb 1 (ticket .opening) (subst (λ (n : ℕ). 1 ≤ n) opening-own (fits .least)),
+          le-leb (ticket .opening) openings (subst (λ (n : ℕ). n ≤ openings) opening-own (fits .most)),
+          le-leb 1 (suc (headOf place .steps)) (omega arith),
+          le-leb (suc (headOf place .steps)) steps (omega arith),
+        )
+
+    -- and is read back
+    slip-back : readTold (take slipLong (submitSlip dir ticket sender today sheet slip room))
+        ≡ done (slipValues (slipSaid dir ticket sender today sheet slip room m (outcome case place)))
+    slip-back =
+        let said : Slip = slipSaid dir ticket sender today sheet slip room m (outcome case place) in
+        ap (λ (b : List ℕ). readTold (take slipLong b)) slip-left
+        ∙ ap readTold (slip-first said (drop slipLong slip)) ∙ image-read said slip-sound
+
+    -- the step stands in its place, and stores what it should
+    pub step-after : stepOf (seatOf (submitAfter dir ticket sender today sheet slip room) (ticket .seat)) (headOf place .steps) ≡ made
+    step-after = ap (λ (s : List ℕ). stepOf s (headOf place .steps)) seat-behind ∙ stepped-last made place seat-long made-fits steps-low
+
+    made-so : made ≡ stepStored dir ticket sender today sheet slip room m (outcome case place) (moveIn made)
+    unfolding judgedStep stepMade caseOf
+    made-so = refl
+
+    -- of the room nothing else has changed
+    room-left : submitAfter dir ticket sender today sheet slip room
+        ≡ withSeat room (ticket .seat) (seatOf (submitAfter dir ticket sender today sheet slip room) (ticket .seat))
+    room-left = room-behind ∙ ap (withSeat room (ticket .seat)) (sym seat-behind)
+
+    head-after : headOf (seatOf (submitAfter dir ticket sender today sheet slip room) (ticket .seat))
+        ≡ record { opening = headOf place .opening; opened = headOf place .opened; steps = suc (headOf place .steps) }
+    head-after = ap headOf seat-behind ∙ stepped-head made place seat-long made-fits steps-low
+
+    steps-kept : (k : ℕ) → k < steps → (k ≡ headOf place .steps → ⊥)
+        → stepOf (seatOf (submitAfter dir ticket sender today sheet slip room) (ticket .seat)) k ≡ stepOf place k
+    steps-kept k low apart =
+        ap (λ (s : List ℕ). stepOf s k) seat-behind
+        ∙ stepped-other made place seat-long made-fits steps-low k low (λ (e : headOf place .steps ≡ k). apart (sym e))
+
+    -- it is recorded with its outcome and its movement
+    outcome-recorded : Recorded dir ticket sender today sheet slip room m (outcome case place) (moveIn made)
     outcome-recorded = record {
       answered = told-done;
-      slipped = slip-made ∙ slip-says;
-      counted = count-behind;
-      kinded = ap (λ (x : Step). x .kind) step-behind;
-      ended = ap (λ (x : Step). x .status) step-behind;
-      checked = ap (λ (x : Step). x .check) step-behind;
+      slipped = slip-left;
+      sound = slip-sound;
+      readBack = slip-back;
+      stored = step-after ∙ made-so;
+      elsewhere = room-left;
+      headed = head-after;
+      kept = steps-kept;
     }
 
-    pub recorded : (o : Outcome) → outcome case place ≡ o → Recorded dir ticket sender today sheet slip room (m .kind) o
-    recorded o e = subst (λ (x : Outcome). Recorded dir ticket sender today sheet slip room (m .kind) x) e outcome-recorded
+    pub recorded : (o : Outcome) (move : Move) → outcome case place ≡ o → moveIn made ≡ move
+        → Recorded dir ticket sender today sheet slip room m o move
+    recorded o move e moves =
+        subst (λ (x : Outcome). Recorded dir ticket sender today sheet slip room m x move) e
+        (subst (λ (x : Move). Recorded dir ticket sender today sheet slip room m (outcome case place) x) moves outcome-recorded)
+
+    -- and with no other outcome
+    same-outcome : (o : Outcome) (move : Move)
+        → stepOf (seatOf (submitAfter dir ticket sender today sheet slip room) (ticket .seat)) (headOf place .steps)
+        ≡ stepStored dir ticket sender today sheet slip room m o move → outcome case place ≡ o
+    same-outcome o move e = ap (λ (x : Step). record { status = x .status; check = x .check }) (sym (step-after ∙ made-so) ∙ e)
+
+  -- whatever outcome a message is recorded with, it was taken, and that is its outcome
+  pub record Took (o : Outcome) : Type 0 where
+    pub takes : notTaken (verdict case place) ≡ false
+    pub ends : outcome case place ≡ o
+
+  pub took : (o : Outcome) (move : Move) → Recorded dir ticket sender today sheet slip room m o move → Took o
+  took o move r = go (notTaken (verdict case place)) refl
+    where
+      go : (t : Bool) → notTaken (verdict case place) ≡ t → Took o
+      go true e =
+          let twelve : _≡_ {A = ℕ} 12 0 = ap (λ (t : Told). t .number) (sym (told-refused e) ∙ r .answered) in
+          absurd (omega arith)
+      go false e = record { takes = e; ends = same-outcome e o move (r .stored) }

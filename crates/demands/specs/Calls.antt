@@ -3,9 +3,11 @@
 -- Laying out a room is a call of its own: the room is laid out before any list of calls begins.
 use mathlib.Core.List.{List, []}
 use Prim.Native.Nat.{ℕ}
+use lib.ListN.{replicate}
 use Rattle.slip.specs.declared.Slip.{Slip}
 use Rattle.slip.specs.Answers.{writeAfter}
 use Rattle.directory.specs.declared.Participant.{Participant}
+use Rattle.layout.specs.Seat.{roomLong}
 use Rattle.seat.specs.declared.calls.Wish.{Wish}
 use Rattle.centre.specs.declared.Ticket.{Ticket}
 use Rattle.centre.specs.Answers.{Told}
@@ -28,6 +30,10 @@ pub data Call : Type 0 where
   under : (ticket : Ticket) → (act : Act) → Call
   writing : (slip : Slip) → (buffer : List ℕ) → Call
   reading : (bytes : List ℕ) → Call
+
+-- a new room, which is what laying out leaves
+abbrev pub newRoom : List ℕ
+newRoom = replicate roomLong 0
 
 module _ (dir : List Participant) where
   -- what a call answers in a room

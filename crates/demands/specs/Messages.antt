@@ -15,18 +15,22 @@ use Rattle.table.specs.Checks.{orderOf}
 use Rattle.slip.specs.declared.Slip.{Slip}
 use Rattle.slip.specs.declared.Status.{Status}
 use Rattle.slip.specs.declared.Status.the-variants.{Pdng, Accc, Rjct}
-use Rattle.slip.specs.Meaning.{slipLong, kindNumber, statusNumber, isSlip}
+use Rattle.slip.specs.Meaning.{steps, slipLong, kindNumber, statusNumber, isSlip}
 use Rattle.slip.specs.Image.{image}
 use Rattle.slip.specs.Answers.{writeAfter}
 use Rattle.message.specs.declared.Message.{Message}
+use Rattle.message.specs.declared.Answer.{Answer}
 use Rattle.message.specs.declared.Answer.the-variants.{Good}
-use Rattle.message.specs.Received.{receivedOf}
+use Rattle.message.specs.Due.{Due}
 use Rattle.directory.specs.declared.Participant.{Participant}
 use Rattle.layout.specs.declared.rows.Account.{Account}
-use Rattle.layout.specs.Seat.{accounts, headOf, accountOf, stepOf, seatOf}
+use Rattle.layout.specs.declared.rows.Step.{Step}
+use Rattle.layout.specs.Seat.{accounts, headOf, accountOf, stepOf, seatOf, withSeat}
 use Rattle.journal.specs.declared.results.Outcome.{Outcome}
+use Rattle.journal.specs.Steps.{noSettings}
 use Rattle.journal.specs.Working.{debited, credited, turned}
 use Rattle.judge.specs.declared.case.Case.{Case}
+use Rattle.judge.specs.Values.{orZero}
 use Rattle.judge.specs.Case.{caseOf}
 use Rattle.judge.specs.Rows.{askedAfter, movementIn}
 use Rattle.judge.specs.Verdict.{fails, toldOf}
@@ -35,27 +39,37 @@ use Rattle.centre.specs.Answers.{Told, done, refusedWith, slipValues}
 use Rattle.centre.specs.Submit.{submitTold, submitAfter, submitSlip}
 use Rattle.centre.specs.Slips.{writeTold, readTold}
 use Rattle.demands.specs.Calls.{submit, under}
-use Rattle.demands.specs.Refusals.{none, table}
+use Rattle.demands.specs.Refusals.{none, table, Exactly}
 
--- an account behind a movement of n from account d to account e: debited, credited, or as it was. One account both times: the balance stays,
--- turnover grows
-abbrev pub behindMove : ℕ → ℕ → ℕ → ℕ → Account → Account
-behindMove d e n i a =
-    cond (eqb i d && eqb i e) (turned n a)
-    (cond (eqb i d) (debited n a)
-    (cond (eqb i e) (credited n a) a))
+-- money that moves: the debited account, the credited one and the amount
+pub record Move : Type 0 where
+  pub debit : ℕ
+  pub credit : ℕ
+  pub amount : ℕ
 
--- a transfer that fails ends as RJCT, a pacs.028 as PDNG
+-- where none moves a step stores zeros
+abbrev pub noMove : Move
+noMove = record { debit = 0; credit = 0; amount = 0 }
+
+-- an account after a movement: debited, credited, or as it was. One account both times: the balance stays, turnover grows
+abbrev pub afterMove : Move → ℕ → Account → Account
+afterMove move i a =
+    cond (eqb i (move .debit) && eqb i (move .credit)) (turned (move .amount) a)
+    (cond (eqb i (move .debit)) (debited (move .amount) a)
+    (cond (eqb i (move .credit)) (credited (move .amount) a) a))
+
+-- a transfer that passes every check ends as ACCC with 0
+abbrev pub accepted : Outcome
+accepted = record { status = statusNumber Accc; check = 0 }
+
+-- a transfer that fails ends as RJCT with the check, a pacs.028 as PDNG with it
 abbrev pub failedAs : Kind → Status
 failedAs Pacs008 = Rjct
 failedAs Camt050 = Rjct
 failedAs Pacs028 = Pdng
 
--- how a message ends that passes every check: a transfer with ACCC and 0, a pacs.028 with what has become of the payment that it asks after
-abbrev pub passedAs : Kind → Case → List ℕ → Outcome
-passedAs Pacs008 c s = record { status = statusNumber Accc; check = 0 }
-passedAs Camt050 c s = record { status = statusNumber Accc; check = 0 }
-passedAs Pacs028 c s = toldOf (askedAfter c s) s
+abbrev pub failedBy : Kind → ℕ → Outcome
+failedBy kind k = record { status = statusNumber (failedAs kind); check = k }
 
 module _ (dir : List Participant) (ticket : Ticket) (sender today : ℕ) (sheet slip room : List ℕ) where
   abbrev pub answer : Told
@@ -67,58 +81,72 @@ module _ (dir : List Participant) (ticket : Ticket) (sender today : ℕ) (sheet 
   abbrev pub slipThen : List ℕ
   slipThen = submitSlip dir ticket sender today sheet slip room
 
-  -- the seat before and behind
+  -- the seat before and after
   abbrev pub seat : List ℕ
   seat = seatOf room (ticket .seat)
 
   abbrev pub seatThen : List ℕ
   seatThen = seatOf roomThen (ticket .seat)
 
-  -- nothing but a check refuses: of the table of refusals no row but the last, which is 12, applies
-  abbrev pub Heard : Type 0
-  Heard = none (take 11 (table dir room (under ticket (submit sender today sheet slip)))) ≡ true
+  -- how many steps stood in its journal, which is the place of the next one
+  abbrev pub count : ℕ
+  count = headOf seat .steps
 
-  -- the slip of an outcome: kind, status, check, seat, opening and step, in the first five bytes; the rest stays
-  abbrev pub slipOf : Kind → Outcome → List ℕ
-  slipOf kind o =
-      image (record {
-        kind = kindNumber kind;
-        status = o .status;
-        check = o .check;
-        seat = ticket .seat;
-        opening = ticket .opening;
-        step = suc (headOf seat .steps);
-      })
-      ++ drop slipLong slip
+  -- nothing but a check refuses what the sheet was received as: of the table of refusals no row but the last, which is 12, applies
+  abbrev pub Heard : Answer → Type 0
+  Heard received = none (take 11 (table dir room received (under ticket (submit sender today sheet slip)))) ≡ true
 
-  -- the message was one step more with this outcome, and has its slip
-  pub record Recorded (kind : Kind) (o : Outcome) : Type 0 where
+  -- what the slip says: kind, status, check, seat, opening and step
+  abbrev pub slipSaid : Message → Outcome → Slip
+  slipSaid m o = record {
+    kind = kindNumber (m .kind);
+    status = o .status;
+    check = o .check;
+    seat = ticket .seat;
+    opening = ticket .opening;
+    step = suc count;
+  }
+
+  -- what the step stores: kind, result, sender, MsgId, UETR, creation time, end-to-end identifier, movement. Settings are a set's
+  abbrev pub stepStored : Message → Outcome → Move → Step
+  stepStored m o move = record {
+    kind = kindNumber (m .kind);
+    status = o .status;
+    check = o .check;
+    sender = sender;
+    id = m .id .stored;
+    uetr = m .uetr;
+    created = orZero (m .created);
+    reference = m .reference;
+    debit = move .debit;
+    credit = move .credit;
+    amount = move .amount;
+    account = 0;
+    old = noSettings;
+    given = noSettings;
+  }
+
+  -- the message was one step more with this outcome and this movement, and has its slip
+  pub record Recorded (m : Message) (o : Outcome) (move : Move) : Type 0 where
     pub answered : answer ≡ done []
-    pub slipped : slipThen ≡ slipOf kind o
-    pub counted : headOf seatThen .steps ≡ suc (headOf seat .steps)
-    pub kinded : stepOf seatThen (headOf seat .steps) .kind ≡ kindNumber kind
-    pub ended : stepOf seatThen (headOf seat .steps) .status ≡ o .status
-    pub checked : stepOf seatThen (headOf seat .steps) .check ≡ o .check
+    -- the slip stands in the first bytes, the rest of the buffer stays; it is a slip, and is read back as what it says
+    pub slipped : slipThen ≡ image (slipSaid m o) ++ drop slipLong slip
+    pub sound : isSlip (slipSaid m o) ≡ true
+    pub readBack : readTold (take slipLong slipThen) ≡ done (slipValues (slipSaid m o))
+    -- the step stands in the first free place
+    pub stored : stepOf seatThen count ≡ stepStored m o move
+    -- of the room only its seat changed, of the seat's head only the count; the other places of the journal are as they were
+    pub elsewhere : roomThen ≡ withSeat room (ticket .seat) seatThen
+    pub headed : headOf seatThen ≡ record { opening = headOf seat .opening; opened = headOf seat .opened; steps = suc count }
+    pub kept : (k : ℕ) → k < steps → (k ≡ count → ⊥) → stepOf seatThen k ≡ stepOf seat k
+
+  -- each account is as a movement leaves it
+  abbrev pub AccountsAfter : Move → Type 0
+  AccountsAfter move = (i : ℕ) → i < accounts → accountOf seatThen i ≡ afterMove move i (accountOf seat i)
 
   -- no account changed
   abbrev pub Unmoved : Type 0
   Unmoved = (i : ℕ) → i < accounts → accountOf seatThen i ≡ accountOf seat i
-
-  -- the money moved, by exactly the amount, from the one account to the other, and nothing else of the accounts but that turnover changed
-  pub record Moved (c : Case) : Type 0 where
-    pub debit : ℕ
-    pub credit : ℕ
-    pub amount : ℕ
-    pub debits : movementIn c seat .debit ≡ Of debit
-    pub credits : movementIn c seat .credit ≡ Of credit
-    pub amounts : c .message .amount ≡ Of amount
-    pub there : amount ≤ accountOf seat debit .balance
-    pub moves : (i : ℕ) → i < accounts → accountOf seatThen i ≡ behindMove debit credit amount i (accountOf seat i)
-
-  abbrev pub MovedBy : Kind → Case → Type 0
-  MovedBy Pacs008 c = Moved c
-  MovedBy Camt050 c = Moved c
-  MovedBy Pacs028 c = Unmoved
 
   -- the case of a message, and the checks that it passes in its seat
   abbrev pub caseOn : Message → Case
@@ -127,20 +155,39 @@ module _ (dir : List Participant) (ticket : Ticket) (sender today : ℕ) (sheet 
   abbrev pub passes : Message → ℕ → Bool
   passes m k = not (fails (caseOn m) seat k)
 
+  -- the transfer is recorded as ACCC, and the money moved, by exactly the amount, from the one account to the other; of the accounts nothing else
+  -- changed but that turnover
+  pub record Transferred (m : Message) : Type 0 where
+    pub move : Move
+    pub debits : movementIn (caseOn m) seat .debit ≡ Of (move .debit)
+    pub credits : movementIn (caseOn m) seat .credit ≡ Of (move .credit)
+    pub amounts : m .amount ≡ Of (move .amount)
+    pub there : move .amount ≤ accountOf seat (move .debit) .balance
+    pub recorded : Recorded m accepted move
+    pub moved : AccountsAfter move
+
+  -- how a message is carried out that passes every check: a transfer so; a pacs.028 tells what has become of the payment that it asks after
+  abbrev pub CarriedOut : Kind → Message → Type 0
+  CarriedOut Pacs008 m = Transferred m
+  CarriedOut Camt050 m = Transferred m
+  CarriedOut Pacs028 m = Recorded m (toldOf (askedAfter (caseOn m) seat) seat) noMove × Unmoved
+
+  -- how one ends that fails by a check: checks 1 and 2 are refusal 12, without a step; by a later one it is recorded, and no money moves
+  pub record FailedBy (m : Message) (k : ℕ) : Type 0 where
+    pub refuses : k ≤ 2 → (answer ≡ refusedWith 12 k) × (roomThen ≡ room) × (slipThen ≡ slip)
+    pub records : 2 < k → Recorded m (failedBy (m .kind) k) noMove × Unmoved
+
   pub record Judged (m : Message) : Type 0 where
-    -- carried out where no check of the kind's order fails
-    pub carried : every (passes m) (orderOf (m .kind)) ≡ true
-        → Recorded (m .kind) (passedAs (m .kind) (caseOn m) seat) × MovedBy (m .kind) (caseOn m)
-    -- otherwise the first failing one in that order is the answer, and no money moves. Checks 1 and 2 are refusal 12, without a step
-    pub failed : (before : List ℕ) (k : ℕ) (behind : List ℕ) → orderOf (m .kind) ≡ before ++ (k ∷ behind)
-        → every (passes m) before ≡ true → fails (caseOn m) seat k ≡ true
-        → (k ≤ 2 → (answer ≡ refusedWith 12 k) × (roomThen ≡ room) × (slipThen ≡ slip))
-        × (2 < k → Recorded (m .kind) (record { status = statusNumber (failedAs (m .kind)); check = k }) × Unmoved)
+    -- it is carried out exactly when every check of the kind's order passes
+    pub carried : Exactly (every (passes m) (orderOf (m .kind)) ≡ true) (CarriedOut (m .kind) m)
+    -- and the first failing one in that order is its end exactly otherwise
+    pub failed : (before : List ℕ) (k : ℕ) (later : List ℕ) → orderOf (m .kind) ≡ before ++ (k ∷ later)
+        → Exactly ((every (passes m) before ≡ true) × (fails (caseOn m) seat k ≡ true)) (FailedBy m k)
 
   -- where nothing but a check refuses, the sheet is a message, and it is judged so
-  pub record Heeded : Type 0 where
+  pub record Heeded (received : Answer) : Type 0 where
     pub message : Message
-    pub good : receivedOf sheet .answer ≡ Good message
+    pub good : received ≡ Good message
     pub judged : Judged message
 
 -- bytes that are read as a slip are the five bytes of that slip and of no other
@@ -158,6 +205,6 @@ pub record Slips : Type 0 where
 
 abbrev pub Demand2 : Type 0
 Demand2 =
-    ((dir : List Participant) (ticket : Ticket) (sender today : ℕ) (sheet slip room : List ℕ)
-    → Heard dir ticket sender today sheet slip room → Heeded dir ticket sender today sheet slip room)
+    ((dir : List Participant) (ticket : Ticket) (sender today : ℕ) (sheet slip room : List ℕ) (received : Answer) → Due sheet received
+    → Heard dir ticket sender today sheet slip room received → Heeded dir ticket sender today sheet slip room received)
     × Slips

@@ -9,8 +9,9 @@ use lib.Dec.{eqb}
 use lib.ListN.{length}
 use Rattle.shape.specs.Bytes.{every}
 use Rattle.slip.specs.Answers.{bufferShort}
-use Rattle.message.specs.Received.{receivedOf}
+use Rattle.message.specs.declared.Answer.{Answer}
 use Rattle.message.specs.Lowest.{numberOf}
+use Rattle.message.specs.Due.{Due}
 use Rattle.directory.specs.declared.Participant.{Participant}
 use Rattle.directory.specs.Directory.{found, isFit}
 use Rattle.layout.specs.Seat.{roomLong, seatOf}
@@ -18,10 +19,11 @@ use Rattle.seat.specs.Fit.{roomFits}
 use Rattle.seat.specs.Calls.{seatOpen, lastGivenOut, journalFull, nothingToTakeBack, sumsBad, accountBad, settingBad, settingsOf}
 use Rattle.judge.specs.Case.{caseOf}
 use Rattle.centre.specs.declared.Ticket.{Ticket}
+use Rattle.centre.specs.Answers.{refused, done as finished}
 use Rattle.centre.specs.Calls.{noSeat, ticketBad, layTold, layAfter}
 use Rattle.centre.specs.Slips.{writeBad, readBad}
 use Rattle.centre.specs.Submit.{callBad, sheetBad, fieldBad, notTaken, verdictOn}
-use Rattle.demands.specs.Calls.{Act, close, set, submit, takeBack, read, Call, opening, under, writing, reading, callTold, callRoom, callSlip, slipLent}
+use Rattle.demands.specs.Calls.{Act, close, set, submit, takeBack, read, Call, opening, under, writing, reading, callTold, callRoom, callSlip, slipLent, newRoom}
 
 -- none of these rows applies
 abbrev pub none : List (ℕ × Bool) → Bool
@@ -48,7 +50,15 @@ ofSubmit otherwise test (submit sender today sheet slip) = test sender today she
 ofSubmit otherwise test takeBack = otherwise
 ofSubmit otherwise test (read owner number) = otherwise
 
-module _ (dir : List Participant) (room : List ℕ) where
+-- the sheet that a call hands in
+abbrev pub sheetIn : Call → List ℕ
+sheetIn (opening seat sums) = []
+sheetIn (under ticket act) = ofSubmit [] (λ sender today sheet slip. sheet) act
+sheetIn (writing slip buffer) = []
+sheetIn (reading bytes) = []
+
+-- of a call in a room with a directory, and of what its sheet is received as, which is what the grammar and the tables of fields say (`Due`)
+module _ (dir : List Participant) (room : List ℕ) (received : Answer) where
   -- 1: room unfit
   unfoldable pub roomRefused : Call → Bool
   roomRefused call = ofOpening (λ seat sums. not (roomFits room)) call || ofActs (λ ticket act. not (roomFits room)) call
@@ -89,10 +99,10 @@ module _ (dir : List Participant) (room : List ℕ) where
 
   -- 7: sheet ill-formed; 8: unknown message, or a field missing, doubled or ill-shaped
   abbrev pub sheetRefused : Act → Bool
-  sheetRefused act = ofSubmit false (λ sender today sheet slip. sheetBad (receivedOf sheet .answer)) act
+  sheetRefused act = ofSubmit false (λ sender today sheet slip. sheetBad received) act
 
   abbrev pub fieldRefused : Act → Bool
-  fieldRefused act = ofSubmit false (λ sender today sheet slip. fieldBad (receivedOf sheet .answer)) act
+  fieldRefused act = ofSubmit false (λ sender today sheet slip. fieldBad received) act
 
   -- 9: submit or set with 24 steps
   abbrev pub makesStep : Act → Bool
@@ -120,7 +130,7 @@ module _ (dir : List Participant) (room : List ℕ) where
   -- 12: submit fails check 1 or 2
   abbrev pub checkOf : Ticket → Act → ℕ
   checkOf ticket act =
-      ofSubmit 0 (λ sender today sheet slip. verdictOn (caseOf dir sender today) (receivedOf sheet .answer) (seatOf room (ticket .seat))) act
+      ofSubmit 0 (λ sender today sheet slip. verdictOn (caseOf dir sender today) received (seatOf room (ticket .seat))) act
 
   -- the table of refusals in its order, 1 to 6, 11, 9, 10, 7, 8, 12: each number, and whether its row applies
   unfoldable pub table : Call → List (ℕ × Bool)
@@ -143,7 +153,7 @@ module _ (dir : List Participant) (room : List ℕ) where
   abbrev pub detailBy : Ticket → Act → ℕ → ℕ
   detailBy ticket act n =
       ofSubmit 0
-      (λ sender today sheet slip. cond (eqb n 7 || eqb n 8) (numberOf (receivedOf sheet .answer) .1) (cond (eqb n 12) (checkOf ticket act) 0))
+      (λ sender today sheet slip. cond (eqb n 7 || eqb n 8) (numberOf received .1) (cond (eqb n 12) (checkOf ticket act) 0))
       act
 
   abbrev pub detailOf : Call → ℕ → ℕ
@@ -157,24 +167,34 @@ abbrev pub Exactly : Type 0 → Type 0 → Type 0
 Exactly A B = (A → B) × (B → A)
 
 -- the demand, of one call in one room with one directory, none of which is asked for anything
-pub record Refused (dir : List Participant) (room : List ℕ) (call : Call) : Type 0 where
+pub record Refused (dir : List Participant) (room : List ℕ) (received : Answer) (call : Call) : Type 0 where
   -- each number is given exactly when its row applies and none before it in the order does
-  pub given : (before : List (ℕ × Bool)) (n : ℕ) (applies : Bool) (behind : List (ℕ × Bool))
-      → table dir room call ≡ before ++ ((n, applies) ∷ behind)
+  pub given : (before : List (ℕ × Bool)) (n : ℕ) (applies : Bool) (later : List (ℕ × Bool))
+      → table dir room received call ≡ before ++ ((n, applies) ∷ later)
       → Exactly (callTold dir call room .number ≡ n) ((applies ≡ true) × (none before ≡ true))
   -- and 0 exactly when no row applies
-  pub done : Exactly (callTold dir call room .number ≡ 0) (none (table dir room call) ≡ true)
+  pub done : Exactly (callTold dir call room .number ≡ 0) (none (table dir room received call) ≡ true)
   -- a refusal has the detail named and no values
   pub detail : (callTold dir call room .number ≡ 0 → ⊥)
-      → (callTold dir call room .detail ≡ detailOf dir room call (callTold dir call room .number)) × (callTold dir call room .values ≡ [])
+      → (callTold dir call room .detail ≡ detailOf dir room received call (callTold dir call room .number)) × (callTold dir call room .values ≡ [])
   -- and leaves the room and the slip buffer as they came
   pub stays : (callTold dir call room .number ≡ 0 → ⊥) → (callRoom dir call room ≡ room) × (callSlip dir call room ≡ slipLent call)
 
--- laying out: 1 exactly when the length is wrong, and the room stays then; else 0
+-- every sheet is due one answer, and no second one
+pub record OneDue (sheet : List ℕ) : Type 0 where
+  pub received : Answer
+  pub due : Due sheet received
+  pub only : (other : Answer) → Due sheet other → other ≡ received
+
+-- laying out: 1 exactly when the length is wrong, with no detail and no values, and the room stays then; else 0, and the room is a new one
 pub record LaidOut (room : List ℕ) : Type 0 where
-  pub given : Exactly (layTold room .number ≡ 1) (length room ≡ roomLong → ⊥)
-  pub done : Exactly (layTold room .number ≡ 0) (length room ≡ roomLong)
-  pub stays : (layTold room .number ≡ 0 → ⊥) → layAfter room ≡ room
+  pub given : Exactly (layTold room ≡ refused 1) (length room ≡ roomLong → ⊥)
+  pub done : Exactly (layTold room ≡ finished []) (length room ≡ roomLong)
+  pub stays : (length room ≡ roomLong → ⊥) → layAfter room ≡ room
+  pub left : length room ≡ roomLong → layAfter room ≡ newRoom
 
 abbrev pub Demand1 : Type 0
-Demand1 = ((dir : List Participant) (room : List ℕ) (call : Call) → Refused dir room call) × ((room : List ℕ) → LaidOut room)
+Demand1 =
+    ((dir : List Participant) (room : List ℕ) (call : Call) (received : Answer) → Due (sheetIn call) received → Refused dir room received call)
+    × ((sheet : List ℕ) → OneDue sheet)
+    × ((room : List ℕ) → LaidOut room)

@@ -6,18 +6,13 @@ use mathlib.Core.Bool.{cond}
 use mathlib.Core.List.{List, []}
 use mathlib.Core.Option.{Option, none, some}
 use Prim.Native.Nat.{ℕ}
-use lib.ListN.{replicate}
 use Rattle.directory.specs.declared.Participant.{Participant}
-use Rattle.layout.specs.Seat.{roomLong, seatOf, withSeat}
+use Rattle.layout.specs.Seat.{seatOf, withSeat}
 use Rattle.strike.specs.Machine.{Deed, quiet, step, back, fresh, Machine}
 use Rattle.strike.specs.Strike.{Struck}
 use Rattle.centre.specs.Answers.{Told, isDone}
 use Rattle.centre.specs.Calls.{noSeat}
-use Rattle.demands.specs.Calls.{Act, close, set, submit, takeBack, read, Call, opening, under, writing, reading, callTold, callRoom, callSlip}
-
--- a new room
-abbrev pub newRoom : List ℕ
-newRoom = replicate roomLong 0
+use Rattle.demands.specs.Calls.{Act, close, set, submit, takeBack, read, Call, opening, under, writing, reading, callTold, callRoom, callSlip, newRoom}
 
 -- the seat that a call is for
 unfoldable pub seatNamed : ℕ → Option ℕ

@@ -1,7 +1,7 @@
 -- What becomes of a message is what a row of its kind may hold: a transfer ends with 0 or with a check that it can fail by, and a pacs.028 with its
 -- own check or with what has become of the payment that it asks after, which is a fit step of the journal.
 -- Assumes nothing.
-use mathlib.Core.Path.{_≡_, refl, sym, subst}
+use mathlib.Core.Path.{_≡_, refl, sym, ap, subst}
 use mathlib.Core.Bool.{Bool, true, false, _&&_, _||_, cond, false≢true}
 use mathlib.Core.List.{List}
 use Prim.Native.Nat.{ℕ, _≤_}
@@ -14,7 +14,7 @@ use Rattle.shape.specs.declared.stored.Identifier.{Identifier}
 use Rattle.table.specs.declared.Kind.{Kind}
 use Rattle.table.specs.declared.Kind.the-variants.{Pacs008, Camt050, Pacs028}
 use Rattle.table.specs.Checks.{orderOf, runs}
-use Rattle.slip.specs.declared.Status.the-variants.{Accc}
+use Rattle.slip.specs.declared.Status.the-variants.{Pdng, Accc}
 use Rattle.slip.specs.Meaning.{steps, kindNumber, statusNumber}
 use Rattle.directory.specs.Directory.{codeMost}
 use Rattle.layout.specs.declared.rows.Step.{Step}
@@ -112,6 +112,20 @@ asked-ends : (c : Case) (s : List ℕ) → openFits s ≡ true → isKnown (c .m
 unfolding askedAfter
 asked-ends c s fit known =
     payment-told (c .message .original .stored) s fit (askedAfter c s) refl (known-there (c .message .original .stored) s known)
+
+-- what is told of a payment is never PDNG with a check, which is how a pacs.028 ends that fails itself
+not-pending : (o : Outcome) (check : ℕ) → Ends Pacs008 o → o ≡ record { status = statusNumber Pdng; check = check } → ⊥
+unfolding endsAs statusNumber
+not-pending o check ends e = false≢true (subst (λ (x : Outcome). Ends Pacs008 x) e ends)
+
+pub told-apart : (c : Case) (s : List ℕ) → openFits s ≡ true → (check : ℕ) → (check ≡ 0 → ⊥)
+    → toldOf (askedAfter c s) s ≡ record { status = statusNumber Pdng; check = check } → ⊥
+unfolding askedAfter isThere toldOf
+told-apart c s fit check some e = go (askedAfter c s) refl e
+  where
+    go : (y : Earlier) → askedAfter c s ≡ y → toldOf y s ≡ record { status = statusNumber Pdng; check = check } → ⊥
+    go (Of k x) found same = not-pending (toldOf (Of k x) s) check (payment-told (c .message .original .stored) s fit (Of k x) found refl) same
+    go None found same = some (ap (λ (o : Outcome). o .check) (sym same))
 
 -- what is asked after stands at a place that a journal has
 pub asked-within : (c : Case) (s : List ℕ) → headOf s .steps ≤ steps → placeFits (askedAfter c s) ≡ true
