@@ -1,5 +1,5 @@
 -- What the listing program prints: document 01, "The sheet". A line for each text with its path, then how many there are; or the refusal.
--- Each line ends with a line feed.
+-- Each line ends with a line feed. What a listing is by the grammar alone stands in `Printed.antt`.
 use mathlib.Core.Bool.{cond}
 use mathlib.Core.List.{List, [], _∷_, _++_}
 use mathlib.Core.Option.{Option, none, some}

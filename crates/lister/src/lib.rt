@@ -1,6 +1,6 @@
 // The listing of a sheet: what the program of that name prints, as bytes.
-// It stands on rows and knows nothing of messages. The rule stands in `specs/Listing.antt`; what it means to write into a buffer that may be
-// too short, in `specs/Writing.antt`.
+// It stands on rows and knows nothing of messages. The rule stands in `specs/Printed.antt`, by the grammar, and in `specs/Listing.antt`, worked
+// out; what it means to write into a buffer that may be too short, in `specs/Writing.antt`.
 
 mod row;
 mod writer;
