@@ -1,14 +1,14 @@
 -- The listing of a sheet is what the grammar says is printed, and nothing else is.
 -- Assumes nothing.
 use mathlib.Core.Path.{_≡_, ap, sym, subst}
-use mathlib.Core.List.{List, [], _++_}
+use mathlib.Core.List.{List, _++_}
 use Prim.Native.Nat.{ℕ}
 use Rattle.shape.specs.Text.{bytes}
 use Rattle.sheet.specs.Grammar.{sheetMost}
 use Rattle.sheet.specs.Answer.{Reading, readingOf}
 use Rattle.sheet.specs.Right.{Right, whole, broken, long}
 use Rattle.sheet.proofs.Reading.{reading-right, one-place, formed-not-refused}
-use Rattle.outline.specs.Rows.{Row, rows}
+use Rattle.outline.specs.Rows.{Row}
 use Rattle.outline.proofs.OfSheet.{same-rows, rows-of-sheet}
 use Rattle.lister.specs.Listing.{linesOf, fieldsOf, decimalText, textOf, listingOf}
 use Rattle.lister.specs.Printed.{Printed, lines, refusal}

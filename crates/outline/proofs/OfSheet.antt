@@ -3,9 +3,9 @@
 use mathlib.Core.Path.{_≡_, ap, sym, subst}
 use mathlib.Core.List.{List, []}
 use Prim.Native.Nat.{ℕ}
-use Rattle.sheet.specs.Grammar.{Element, render, countOf, startsFrom, depthsFrom, placed, WellFormed}
+use Rattle.sheet.specs.Grammar.{Element, countOf, startsFrom, depthsFrom, placed, WellFormed}
 use Rattle.sheet.proofs.Reading.{same-tree}
-use Rattle.outline.specs.Rows.{Row, rows, rowsOf}
+use Rattle.outline.specs.Rows.{rows, rowsOf}
 use Rattle.outline.proofs.OfTree.{rows-of-tree}
 
 -- two trees of one sheet have the same rows
