@@ -1,3 +1,4 @@
+pub mod CallsTied
 pub mod Decided
 pub mod Deeds
 pub mod DoneCalls

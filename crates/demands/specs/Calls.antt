@@ -1,5 +1,6 @@
 -- The calls of document 01 with all that they are given, what each answers and what it leaves. Nothing is defined anew here: each line cites the
--- definition that the contract of the call in `centre` cites. The directory stays the same over all calls and stands in front.
+-- definition that the contract of the call in `centre` cites (`proofs/CallsTied.antt` proves that over the contracts). The directory stays the same
+-- over all calls and stands in front.
 -- Laying out a room is a call of its own: the room is laid out before any list of calls begins.
 use mathlib.Core.List.{List, []}
 use Prim.Native.Nat.{ℕ}
