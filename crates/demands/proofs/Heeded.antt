@@ -166,7 +166,7 @@ module _ (dir : List Participant) (ticket : Ticket) (sender today : ℕ) (sheet 
       go true e = refused-first k (failed .refuses (leb-true k 2 e) .0)
       go false e = recorded-first k (leb-false k 2 e) (failed .records (leb-false k 2 e) .0)
 
-  judged : Judged dir ticket sender today sheet slip room m
+  pub judged : Judged dir ticket sender today sheet slip room m
   judged = record {
     carried = (
       λ e. passed-carried dir ticket sender today sheet slip room f m good (passes-all .0 e),

@@ -11,9 +11,11 @@ pub mod Money
 pub mod Movement
 pub mod OwnSeat
 pub mod Refused
+pub mod Repeats
 pub mod SeatKept
 pub mod SeatLaws
 pub mod Slips
 pub mod Stays
+pub mod SumsStay
 pub mod Tables
 pub mod Taken

@@ -20,7 +20,8 @@ use Rattle.seat.specs.Fit.{seatFits, roomFits}
 use Rattle.seat.proofs.Kept.{fit-long, room-fits}
 use Rattle.seat.proofs.Rooms.{room-long, room-seat, room-keeps}
 use Rattle.strike.specs.Machine.{Deed, quiet, step, back, fresh, Laws}
-use Rattle.strike.proofs.Struck.{struck-out}
+use Rattle.strike.specs.Strike.{afterAll}
+use Rattle.strike.proofs.Struck.{all-fit, struck-out}
 use Rattle.demands.specs.Calls.{Call, callRoom, newRoom}
 use Rattle.demands.specs.Seats.{seatFor, deedOf, answerOf, alone, partIn, centre, Demand3}
 use Rattle.demands.proofs.InSeat.{tells, writes, leaves}
@@ -163,6 +164,11 @@ module _ (dir : List Participant) where
         none-after-fresh = λ call taker k part sound e f was took.
             back-part k (centre dir .own call part) (kept-sound k part sound call e) taker f took .1 (fresh-part k part sound call e was);
       }
+
+  -- every room that calls reach is fit
+  pub calls-fit : (calls : List Call) → roomFits (afterAll (centre dir) calls newRoom) ≡ true
+  unfolding centre-laws
+  calls-fit calls = all-fit (centre dir) centre-laws calls newRoom room-fits
 
 -- demand 3
 pub demand3 : Demand3

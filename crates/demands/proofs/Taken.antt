@@ -216,7 +216,7 @@ module _ (dir : List Participant) (ticket : Ticket) (sender today : ℕ) (sheet 
         ≡ withSeat room (ticket .seat) (seatOf (submitAfter dir ticket sender today sheet slip room) (ticket .seat))
     room-left = room-behind ∙ ap (withSeat room (ticket .seat)) (sym seat-behind)
 
-    head-after : headOf (seatOf (submitAfter dir ticket sender today sheet slip room) (ticket .seat))
+    pub head-after : headOf (seatOf (submitAfter dir ticket sender today sheet slip room) (ticket .seat))
         ≡ record { opening = headOf place .opening; opened = headOf place .opened; steps = suc (headOf place .steps) }
     head-after = ap headOf seat-behind ∙ stepped-head made place seat-long made-fits steps-low
 

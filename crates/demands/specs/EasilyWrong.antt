@@ -1,22 +1,50 @@
 -- "Easy to get wrong": the three lines of document 01, each as it has to be.
-use mathlib.Core.Bool.{true, false, _||_}
-use mathlib.Core.List.{List}
+use mathlib.Core.Bool.{true, false}
+use mathlib.Core.List.{List, _∷_, _++_}
 use mathlib.Core.Path.{_≡_}
 use Prim.Native.Nat.{ℕ, _<_}
-use Rattle.shape.specs.Stored.{sameIdentifier, sameUetr}
-use Rattle.table.specs.declared.Kind.the-variants.{Pacs008, Camt050}
-use Rattle.slip.specs.Meaning.{steps, kindNumber}
+use Rattle.shape.specs.Bytes.{every}
+use Rattle.table.specs.declared.Kind.the-variants.{Pacs028}
+use Rattle.table.specs.Checks.{orderOf}
+use Rattle.slip.specs.Meaning.{steps}
+use Rattle.message.specs.declared.Message.{Message}
+use Rattle.message.specs.declared.Answer.the-variants.{Good}
+use Rattle.message.specs.Due.{Due}
+use Rattle.directory.specs.declared.Participant.{Participant}
 use Rattle.layout.specs.declared.rows.Account.{Account}
 use Rattle.layout.specs.declared.rows.Step.{Step}
-use Rattle.layout.specs.Seat.{headOf, stepOf}
-use Rattle.journal.specs.Steps.{setKind, isKind}
+use Rattle.layout.specs.Seat.{headOf}
 use Rattle.journal.specs.Working.{stepped, backed, possible}
 use Rattle.seat.specs.Fit.{seatFits}
 use Rattle.journal.specs.Limits.{turnoverAbove, turnoverShut}
 use Rattle.seat.specs.Calls.{limitNumber}
 use Rattle.seat.specs.declared.calls.Limit.the-variants.{Of, None}
-use Rattle.judge.specs.declared.case.Case.{Case}
-use Rattle.judge.specs.Rows.{identifierRepeated, uetrRepeated}
+use Rattle.centre.specs.declared.Ticket.{Ticket}
+use Rattle.demands.specs.Messages.{answer, roomThen, Heard, passes, FailedBy}
+
+-- what a submit hands in
+pub record Handed : Type 0 where
+  pub sender : ℕ
+  pub today : ℕ
+  pub sheet : List ℕ
+  pub slip : List ℕ
+
+-- two submits under one ticket, which are the messages m and n: the first is done, however it ended, and where it left the room nothing but a check
+-- refuses the second
+pub record OneAfterOther (dir : List Participant) (ticket : Ticket) (room : List ℕ) (first second : Handed) (m n : Message) : Type 0 where
+  pub first-is : Due (first .sheet) (Good m)
+  pub first-done : answer dir ticket (first .sender) (first .today) (first .sheet) (first .slip) room .number ≡ 0
+  pub second-is : Due (second .sheet) (Good n)
+  pub second-heard : Heard dir ticket (second .sender) (second .today) (second .sheet) (second .slip)
+      (roomThen dir ticket (first .sender) (first .today) (first .sheet) (first .slip) room) (Good n)
+
+-- then the second fails by this check, unless one that stands before it in the order of its kind fails
+abbrev pub EndsBy : ℕ → (dir : List Participant) (ticket : Ticket) (room : List ℕ) (first second : Handed) (m n : Message) → Type 0
+EndsBy check dir ticket room first second m n =
+    let then : List ℕ = roomThen dir ticket (first .sender) (first .today) (first .sheet) (first .slip) room in
+    (before later : List ℕ) → orderOf (n .kind) ≡ before ++ (check ∷ later)
+    → every (passes dir ticket (second .sender) (second .today) (second .sheet) (second .slip) then n) before ≡ true
+    → FailedBy dir ticket (second .sender) (second .today) (second .sheet) (second .slip) then n check
 
 -- a step that is taken in an open seat with a free place
 pub record Taken (x : Step) (s : List ℕ) : Type 0 where
@@ -26,12 +54,13 @@ pub record Taken (x : Step) (s : List ℕ) : Type 0 where
   pub can : possible x s ≡ true
 
 pub record EasilyWrong : Type 0 where
-  -- a transfer keeps its UETR, and a message its identifier, however it ended: as long as it stands in the journal the checks on repeats fail
-  pub uetr-stays : (s : List ℕ) (k : ℕ) → k < headOf s .steps
-      → (isKind (kindNumber Pacs008) (stepOf s k) || isKind (kindNumber Camt050) (stepOf s k)) ≡ true
-      → (c : Case) → sameUetr (stepOf s k .uetr) (c .message .uetr) ≡ true → uetrRepeated c s ≡ true
-  pub identifier-stays : (s : List ℕ) (k : ℕ) → k < headOf s .steps → isKind setKind (stepOf s k) ≡ false
-      → (c : Case) → sameIdentifier (stepOf s k .id) (c .message .id .stored) ≡ true → identifierRepeated c s ≡ true
+  -- a transfer keeps its UETR however it ended, a rejected camt.050 too: a second transfer with it fails by 17
+  pub uetr-kept : (dir : List Participant) (ticket : Ticket) (room : List ℕ) (first second : Handed) (m n : Message)
+      → OneAfterOther dir ticket room first second m n → (m .kind ≡ Pacs028 → ⊥) → (n .kind ≡ Pacs028 → ⊥) → n .uetr ≡ m .uetr
+      → EndsBy 17 dir ticket room first second m n
+  -- and a message of any kind its identifier: a second one with it fails by 6
+  pub identifier-kept : (dir : List Participant) (ticket : Ticket) (room : List ℕ) (first second : Handed) (m n : Message)
+      → OneAfterOther dir ticket room first second m n → n .id .stored ≡ m .id .stored → EndsBy 6 dir ticket room first second m n
   -- a take-back restores all: money, turnover, old settings, free identifiers; the very numbers of the seat
   pub all-restored : (x : Step) (s : List ℕ) → Taken x s → backed (stepped x s) ≡ s
   -- LPO 0 is a limit, reported as 24 and never as 23; no LPO is no limit

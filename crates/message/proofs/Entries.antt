@@ -15,8 +15,8 @@ use Rattle.table.proofs.Lines.{each, getD-any}
 use Rattle.message.specs.declared.kinds.Shape.the-variants.{Identifier}
 use Rattle.message.specs.declared.kinds.Ccy.the-variants.{Absent}
 use Rattle.message.specs.declared.kinds.Entry.{Entry}
-use Rattle.message.specs.Fields.{Field, pacs008Fields, camt050Fields, pacs028Fields, fieldsOf}
-use Rattle.message.specs.Seen.{noField, entryOf}
+use Rattle.message.specs.Fields.{Field, noField, pacs008Fields, camt050Fields, pacs028Fields, fieldsOf}
+use Rattle.message.specs.Seen.{entryOf}
 
 -- what a table of the code gives behind its end
 abbrev pub no-entry : Entry

@@ -9,10 +9,10 @@ use lib.ListN.{length, getD, set, take, replicate, length-map}
 use lib.Seq.{take-all}
 use Rattle.table.specs.declared.Kind.{Kind}
 use Rattle.message.specs.declared.kinds.Entry.{Entry}
-use Rattle.message.specs.Fields.{fieldsOf, fieldsMost}
+use Rattle.message.specs.Fields.{noField, fieldsOf, fieldsMost}
 use Rattle.message.specs.Held.{Held, missing}
 use Rattle.message.specs.Received.{byNumber}
-use Rattle.message.specs.Seen.{noField, entryOf, heldAt, heldSeen}
+use Rattle.message.specs.Seen.{entryOf, heldAt, heldSeen}
 use Rattle.message.proofs.Turns.{seenAt, seen-held}
 
 pub filled : List ℕ → ℕ → List ℕ

@@ -16,12 +16,11 @@ use Rattle.message.specs.declared.kinds.Body.the-variants.{Of, Unknown}
 use Rattle.message.specs.declared.Answer.{Answer}
 use Rattle.message.specs.declared.Answer.the-variants.{BadField, Good}
 use Rattle.message.specs.declared.Received.{Received}
-use Rattle.message.specs.Fields.{Field, fieldsOf}
+use Rattle.message.specs.Fields.{Field, noField, fieldsOf}
 use Rattle.message.specs.Held.{Held, heldIn, kindOf, heldOf}
 use Rattle.message.specs.Good.{goesWith, firstBad}
 use Rattle.message.specs.Message.{messageOf}
 use Rattle.message.specs.Received.{judged, receivedIn, receivedAs}
-use Rattle.message.specs.Seen.{noField}
 use Rattle.message.specs.Lowest.{fine, Bad, Told, unknown, bad, good}
 
 module _ (rows : List Row) (kind : Kind) where

@@ -17,8 +17,7 @@ use Rattle.outline.specs.Paths.{sameName, samePath}
 use Rattle.table.specs.declared.Kind.{Kind}
 use Rattle.table.specs.declared.Kind.the-variants.{Pacs008, Camt050, Pacs028}
 use Rattle.message.specs.declared.kinds.Numbers.{Numbers}
-use Rattle.message.specs.Fields.{Field, pathOf, pacs008Fields, camt050Fields, pacs028Fields, fieldsOf, bodyOf, fieldsMost, numbersOf}
-use Rattle.message.specs.Seen.{noField}
+use Rattle.message.specs.Fields.{Field, noField, pathOf, pacs008Fields, camt050Fields, pacs028Fields, fieldsOf, bodyOf, fieldsMost, numbersOf}
 
 -- a path is another one or the front of it. Names stand innermost first, so its names are the last ones of the other
 abbrev pub isFront : List (List ℕ) → List (List ℕ) → Bool

@@ -10,10 +10,10 @@ use lib.Seq.{drop-cons}
 use Rattle.table.specs.declared.Kind.{Kind}
 use Rattle.paths.specs.Tree.{nodeOf}
 use Rattle.message.specs.declared.kinds.Entry.{Entry}
-use Rattle.message.specs.Fields.{Field, fieldsOf}
+use Rattle.message.specs.Fields.{Field, noField, fieldsOf}
 use Rattle.message.specs.Held.{Held}
 use Rattle.message.specs.Good.{isGood, goesWith, firstBad, lowestBad}
-use Rattle.message.specs.Seen.{noField, entryOf, heldAt, heldSeen}
+use Rattle.message.specs.Seen.{entryOf, heldAt, heldSeen}
 
 -- what stands at the node of a field
 abbrev pub seenAt : List ℕ → List ℕ → List ℕ → Field → Held

@@ -24,6 +24,10 @@ pub record Field : Type 0 where
   pub shape : Shape
   pub ccy : Ccy
 
+-- what a table shows at a place that it does not have
+abbrev pub noField : Field
+noField = record { path = []; optional = false; shape = Identifier; ccy = Absent }
+
 -- a path that is written with a slash before each name, as its names
 abbrev longer : ℕ → List (List ℕ) → List (List ℕ)
 longer b [] = []

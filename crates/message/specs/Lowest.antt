@@ -11,11 +11,10 @@ use Rattle.table.specs.declared.Kind.{Kind}
 use Rattle.message.specs.declared.kinds.Body.the-variants.{Of, Unknown}
 use Rattle.message.specs.declared.Answer.{Answer}
 use Rattle.message.specs.declared.Answer.the-variants.{IllFormed, BadField, Good}
-use Rattle.message.specs.Fields.{Field, fieldsOf}
+use Rattle.message.specs.Fields.{Field, noField, fieldsOf}
 use Rattle.message.specs.Held.{heldIn, kindOf, heldOf}
 use Rattle.message.specs.Good.{isGood, goesWith}
 use Rattle.message.specs.Message.{messageOf}
-use Rattle.message.specs.Seen.{noField}
 
 -- the number of an answer in the table of refusals, and its detail: the place, the field
 abbrev pub numberOf : Answer → ℕ × ℕ

@@ -1,6 +1,6 @@
 -- The same things said of a survey, which is what the code works on: a node's count and start instead of the rows at its path.
 -- A reader need not believe this file: `receive` promises what `Received` says.
-use mathlib.Core.Bool.{Bool, false, cond}
+use mathlib.Core.Bool.{Bool, cond}
 use mathlib.Core.List.{List, [], _∷_, map}
 use Prim.Native.Nat.{ℕ}
 use lib.Dec.{eqb}
@@ -9,8 +9,6 @@ use Rattle.outline.specs.Rows.{ccyAt, insideAt, textAt}
 use Rattle.paths.specs.Tree.{nodeOf}
 use Rattle.table.specs.declared.Kind.{Kind}
 use Rattle.table.specs.declared.Kind.the-variants.{Pacs008, Camt050, Pacs028}
-use Rattle.message.specs.declared.kinds.Shape.the-variants.{Identifier}
-use Rattle.message.specs.declared.kinds.Ccy.the-variants.{Absent}
 use Rattle.message.specs.declared.kinds.Entry.{Entry}
 use Rattle.message.specs.declared.kinds.Body.{Body}
 use Rattle.message.specs.declared.kinds.Body.the-variants.{Of, Unknown}
@@ -18,9 +16,6 @@ use Rattle.message.specs.Fields.{Field, fieldsOf, bodyOf}
 use Rattle.message.specs.Held.{Held, missing, once, doubled}
 
 -- a field as the code's table has it
-abbrev pub noField : Field
-noField = record { path = []; optional = false; shape = Identifier; ccy = Absent }
-
 unfoldable pub entryOf : Field → Entry
 entryOf f = record { node = nodeOf (f .path); optional = f .optional; shape = f .shape; ccy = f .ccy }
 

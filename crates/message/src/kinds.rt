@@ -7,8 +7,8 @@ ghost use mathlib.Core.Bool.{cond};
 ghost use Prim.Native.Nat.{_<_, _≤_};
 ghost use lib.ListN.{length, getD};
 ghost use Rattle.paths.specs.Tree.{nodes};
-ghost use Rattle.message.specs.Fields.{pacs008Fields, camt050Fields, pacs028Fields, fieldsOf, fieldsMost, numbersOf};
-ghost use Rattle.message.specs.Seen.{noField, entryOf, kindSeen};
+ghost use Rattle.message.specs.Fields.{noField, pacs008Fields, camt050Fields, pacs028Fields, fieldsOf, fieldsMost, numbersOf};
+ghost use Rattle.message.specs.Seen.{entryOf, kindSeen};
 
 // What a field's text has to be.
 pub enum Shape {

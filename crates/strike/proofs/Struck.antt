@@ -109,7 +109,8 @@ module _ (M : Machine) where
   calls-append [] more = refl
   calls-append (e ∷ es) more = rw (calls-append es more)
 
-  all-fit : (L : Laws M) (calls : List (M .Call)) (r : M .Room) → L .Fit r → L .Fit (afterAll M calls r)
+  -- every room that calls reach is fit
+  pub all-fit : (L : Laws M) (calls : List (M .Call)) (r : M .Room) → L .Fit r → L .Fit (afterAll M calls r)
   unfolding afterAll
   all-fit L [] r fit = fit
   all-fit L (c ∷ calls) r fit = all-fit L calls (M .after c r) (L .keeps-fit c r fit)
