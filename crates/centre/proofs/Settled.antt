@@ -1,18 +1,13 @@
 -- Of each public function: no second answer satisfies its contract, since what is told of an answer is told of no other; and no second room or
--- buffer behind it.
+-- buffer after it.
 -- Assumes nothing.
 use mathlib.Core.Path.{_≡_}
 use mathlib.Core.List.{List}
 use Prim.Native.Nat.{ℕ}
 use denote.Ref.{now}
-use Rattle.shape.proofs.Single.{Settled, SettledWith, by-equation}
-use Rattle.directory.specs.declared.Participant.{Participant}
-use Rattle.seat.specs.declared.calls.Wish.{Wish}
+use Rattle.shape.proofs.Single.{Settled, SettledWith, SettledWalked, one-clause, two-clauses, three-clauses, by-equation}
 use Rattle.centre.specs.declared.Answer.{Answer}
-use Rattle.centre.specs.declared.Ticket.{Ticket}
 use Rattle.centre.specs.Answers.{Told, told}
-use Rattle.centre.specs.Calls.{openTold, openAfter, setTold, setAfter, readTold}
-use Rattle.centre.specs.Submit.{submitTold, submitAfter, submitSlip}
 use Rattle.centre.proofs.Told.{told-one}
 use Rattle.centre.proofs.calls.lay_out.Kinds as lay-out-kinds
 use Rattle.centre.proofs.calls.lay_out.Reads as lay-out-reads
@@ -40,6 +35,10 @@ use Rattle.centre.proofs.slips.write_slip.Kinds as write-slip-kinds
 use Rattle.centre.proofs.slips.write_slip.Reads as write-slip-reads
 use Rattle.centre.proofs.slips.read_slip.Kinds as read-slip-kinds
 use Rattle.centre.proofs.slips.read_slip.Reads as read-slip-reads
+use Rattle.centre.proofs.lent.open_seat as open-seat-contract
+use Rattle.centre.proofs.lent.set_account as set-account-contract
+use Rattle.centre.proofs.lent.read_account as read-account-contract
+use Rattle.centre.proofs.lent.submit_sheet as submit-sheet-contract
 
 -- a contract that says what is told of the answer settles the answer
 pub by-told : {t : Told} (x y : Answer) → told x ≡ t → told y ≡ t → x ≡ y
@@ -96,26 +95,18 @@ write-slip κs a x y e f = by-told-and-left x y
 pub read-slip : Settled _ read-slip-kinds.ps read-slip-kinds.r read-slip-reads.Post
 read-slip κs a x y e f = by-told x y
 
--- of the calls over a lent slice of records, over the definitions that their contracts cite
-pub open-seat : (dir : List Participant) (seat : ℕ) (sums room : List ℕ) (x y : Answer) (u v : List ℕ)
-    → (told x ≡ openTold dir seat sums room) × (u ≡ openAfter dir seat sums room)
-    → (told y ≡ openTold dir seat sums room) × (v ≡ openAfter dir seat sums room) → (x ≡ y) × (u ≡ v)
-open-seat dir seat sums room x y u v = by-told-and-left x y
+-- of the calls over a lent slice of records, whose proofs are walks: by their own clauses, the answer and the room at exit
+pub open-seat : SettledWalked open-seat-contract.ended (λ M. open-seat-contract.clauses) (Answer × List ℕ) (λ κs x e. (x, now (e .0)))
+open-seat M 𝓤 H A mem run κs a g x y e f = two-clauses 𝓤 (λ p q. two (by-told x y (p .0) (q .0)) (by-equation (p .1) (q .1)))
 
-pub set-account : (dir : List Participant) (ticket : Ticket) (owner number : ℕ) (wish : Wish) (room : List ℕ) (x y : Answer) (u v : List ℕ)
-    → (told x ≡ setTold dir ticket owner number wish room) × (u ≡ setAfter dir ticket owner number wish room)
-    → (told y ≡ setTold dir ticket owner number wish room) × (v ≡ setAfter dir ticket owner number wish room) → (x ≡ y) × (u ≡ v)
-set-account dir ticket owner number wish room x y u v = by-told-and-left x y
+pub set-account : SettledWalked set-account-contract.ended (λ M. set-account-contract.clauses) (Answer × List ℕ) (λ κs x e. (x, now (e .0)))
+set-account M 𝓤 H A mem run κs a g x y e f = two-clauses 𝓤 (λ p q. two (by-told x y (p .0) (q .0)) (by-equation (p .1) (q .1)))
 
-pub read-account : (dir : List Participant) (ticket : Ticket) (owner number : ℕ) (room : List ℕ) (x y : Answer)
-    → told x ≡ readTold dir ticket owner number room → told y ≡ readTold dir ticket owner number room → x ≡ y
-read-account dir ticket owner number room x y = by-told x y
+pub read-account : SettledWalked read-account-contract.ended (λ M. read-account-contract.clauses) Answer (λ κs x e. x)
+read-account M 𝓤 H A mem run κs a g x y e f = one-clause 𝓤 (by-told x y)
 
-pub submit-sheet : (dir : List Participant) (ticket : Ticket) (sender today : ℕ) (sheet slip room : List ℕ) (x y : Answer) (u v w z : List ℕ)
-    → (told x ≡ submitTold dir ticket sender today sheet slip room)
-    × ((u ≡ submitAfter dir ticket sender today sheet slip room) × (w ≡ submitSlip dir ticket sender today sheet slip room))
-    → (told y ≡ submitTold dir ticket sender today sheet slip room)
-    × ((v ≡ submitAfter dir ticket sender today sheet slip room) × (z ≡ submitSlip dir ticket sender today sheet slip room))
-    → (x ≡ y) × ((u ≡ v) × (w ≡ z))
-submit-sheet dir ticket sender today sheet slip room x y u v w z p q =
-    (by-told x y (p .0) (q .0), (by-equation (p .1 .0) (q .1 .0), by-equation (p .1 .1) (q .1 .1)))
+-- and of this one the buffer at exit too
+pub submit-sheet : SettledWalked submit-sheet-contract.ended (λ M. submit-sheet-contract.clauses) (Answer × (List ℕ × List ℕ))
+    (λ κs x e. (x, (now (e .0), now (e .1 .1 .1 .1 .1 .1 .0))))
+submit-sheet M 𝓤 H A mem run κs a g x y e f =
+    three-clauses 𝓤 (λ p q. two (by-told x y (p .0) (q .0)) (two (by-equation (p .1 .0) (q .1 .0)) (by-equation (p .1 .1) (q .1 .1))))

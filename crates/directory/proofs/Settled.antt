@@ -1,15 +1,8 @@
--- Of each public function that is covered: no second answer satisfies its contract.
+-- Of each public function: no second answer satisfies its contract.
 -- Assumes nothing.
-use mathlib.Core.Path.{_≡_}
-use mathlib.Core.List.{List}
-use Prim.Native.Nat.{ℕ}
-use Rattle.shape.specs.declared.value.Value.{Value}
-use Rattle.directory.specs.declared.Participant.{Participant}
 use Rattle.directory.specs.declared.Gathered.{Gathered}
 use Rattle.directory.specs.declared.Found.{Found}
-use Rattle.directory.specs.Directory.{found, foundAs}
-use Rattle.directory.specs.Gathering.{gathered}
-use Rattle.shape.proofs.Single.{Settled, by-equation}
+use Rattle.shape.proofs.Single.{Settled, SettledWalked, one-clause, by-equation}
 use Rattle.directory.proofs.fits.Kinds as fits-kinds
 use Rattle.directory.proofs.fits.Reads as fits-reads
 use Rattle.directory.proofs.is_owner.Kinds as is-owner-kinds
@@ -42,6 +35,9 @@ use Rattle.directory.proofs.bank_in.Kinds as bank-in-kinds
 use Rattle.directory.proofs.bank_in.Reads as bank-in-reads
 use Rattle.directory.proofs.is_bank_found.Kinds as is-bank-found-kinds
 use Rattle.directory.proofs.is_bank_found.Reads as is-bank-found-reads
+use Rattle.directory.proofs.gather as gather-contract
+use Rattle.directory.proofs.find as find-contract
+use Rattle.directory.proofs.find_given as find-given-contract
 
 pub under-sep : Settled _ under-sep-kinds.ps under-sep-kinds.r under-sep-reads.Post
 under-sep κs a x y e f = by-equation
@@ -91,12 +87,12 @@ bank-in κs a x y e f = by-equation
 pub is-bank-found : Settled _ is-bank-found-kinds.ps is-bank-found-kinds.r is-bank-found-reads.Post
 is-bank-found κs a x y e f = by-equation
 
--- of the three that take the lent list, over the definition that the contract cites
-pub gather : (dir : List Participant) (x y : Gathered) → x ≡ gathered dir → y ≡ gathered dir → x ≡ y
-gather dir x y = by-equation
+-- of the three that take the lent list, whose proofs are walks: by their own clauses
+pub gather : SettledWalked gather-contract.ended (λ M. gather-contract.clauses) Gathered (λ κs x e. x)
+gather M 𝓤 H A mem run κs a g x y e f = one-clause 𝓤 by-equation
 
-pub find : (dir : List Participant) (code : ℕ) (x y : Found) → x ≡ found dir code → y ≡ found dir code → x ≡ y
-find dir code x y = by-equation
+pub find : SettledWalked find-contract.ended (λ M. find-contract.clauses) Found (λ κs x e. x)
+find M 𝓤 H A mem run κs a g x y e f = one-clause 𝓤 by-equation
 
-pub find-given : (dir : List Participant) (code : Value) (x y : Found) → x ≡ foundAs dir code → y ≡ foundAs dir code → x ≡ y
-find-given dir code x y = by-equation
+pub find-given : SettledWalked find-given-contract.ended (λ M. find-given-contract.clauses) Found (λ κs x e. x)
+find-given M 𝓤 H A mem run κs a g x y e f = one-clause 𝓤 by-equation

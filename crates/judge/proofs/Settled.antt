@@ -1,13 +1,7 @@
 -- Of each public function: no second answer satisfies its contract.
 -- Assumes nothing.
-use mathlib.Core.Path.{_≡_}
-use mathlib.Core.List.{List}
-use Prim.Native.Nat.{ℕ}
-use Rattle.shape.proofs.Single.{Settled, by-equation}
-use Rattle.directory.specs.declared.Participant.{Participant}
+use Rattle.shape.proofs.Single.{Settled, SettledWalked, one-clause, by-equation}
 use Rattle.judge.specs.declared.case.Looked.{Looked}
-use Rattle.judge.specs.declared.records.Asked.{Asked}
-use Rattle.judge.specs.Records.{lookedFor}
 use Rattle.judge.proofs.case.case_from.Kinds as case-from-kinds
 use Rattle.judge.proofs.case.case_from.Reads as case-from-reads
 use Rattle.judge.proofs.case.case_of.Kinds as case-of-kinds
@@ -30,6 +24,7 @@ use Rattle.judge.proofs.records.asked_in.Kinds as asked-in-kinds
 use Rattle.judge.proofs.records.asked_in.Reads as asked-in-reads
 use Rattle.judge.proofs.records.look_among.Kinds as look-among-kinds
 use Rattle.judge.proofs.records.look_among.Reads as look-among-reads
+use Rattle.judge.proofs.records.look_up as look-up-contract
 
 pub case-from : Settled _ case-from-kinds.ps case-from-kinds.r case-from-reads.Post
 case-from κs a x y e f = by-equation
@@ -61,9 +56,9 @@ asked-in κs a x y e f = by-equation
 pub look-among : Settled _ look-among-kinds.ps look-among-kinds.r look-among-reads.Post
 look-among κs a x y e f = by-equation
 
--- of the one that takes the lent directory, over the definition that the contract cites
-pub look-up : (dir : List Participant) (sender : ℕ) (asked : Asked) (x y : Looked) → x ≡ lookedFor dir sender asked → y ≡ lookedFor dir sender asked → x ≡ y
-look-up dir sender asked x y = by-equation
+-- of the one that takes the lent directory, whose proof is a walk: by its own clauses
+pub look-up : SettledWalked look-up-contract.ended (λ M. look-up-contract.clauses) Looked (λ κs x e. x)
+look-up M 𝓤 H A mem run κs a g x y e f = one-clause 𝓤 by-equation
 
 pub movement-in : Settled _ movement-in-kinds.ps movement-in-kinds.r movement-in-reads.Post
 movement-in κs a x y e f = by-equation

@@ -2,11 +2,10 @@
 -- Assumes nothing.
 use mathlib.Core.Path.{_≡_, sym, ap, _∙_}
 use denote.Ref.{RefT, now}
-use Rattle.shape.proofs.Single.{Settled, SettledShown, by-equation}
+use Rattle.shape.proofs.Single.{Settled, SettledShown, SettledWalked, one-clause, by-equation}
 use Rattle.sheet.specs.declared.Sheet.{Sheet}
 use Rattle.sheet.specs.declared.reader.Ahead.{Ahead}
 use Rattle.sheet.specs.declared.reader.Reader.{Reader}
-use Rattle.sheet.specs.Reader.{nextIn, shownAt}
 use Rattle.sheet.specs.Sheet.{Answers, sheetOf}
 use mathlib.Core.List.{List}
 use Prim.Native.Nat.{ℕ}
@@ -25,6 +24,11 @@ use Rattle.sheet.proofs.reader.part.Kinds as part-kinds
 use Rattle.sheet.proofs.reader.part.Reads as part-reads
 use Rattle.sheet.proofs.reader.shown_at.Kinds as shown-at-kinds
 use Rattle.sheet.proofs.reader.shown_at.Reads as shown-at-reads
+use Rattle.sheet.proofs.reader.begin as begin-contract
+use Rattle.sheet.proofs.reader.moved as moved-contract
+use Rattle.sheet.proofs.reader.place as place-contract
+use Rattle.sheet.proofs.reader.next as next-contract
+use Rattle.sheet.proofs.reader.shown as shown-contract
 
 pub is-name-byte : Settled _ is-name-byte-kinds.ps is-name-byte-kinds.r is-name-byte-reads.Post
 is-name-byte κs a x y e f = by-equation
@@ -52,21 +56,26 @@ part κs a x y e f = by-equation
 pub shown-at : SettledShown _ shown-at-kinds.ps shown-at-kinds.r shown-at-reads.Post (List ℕ) (λ κs x. now x)
 shown-at κs a x y e f = by-equation
 
--- of those over a reader, what their contracts say: a reader is its sheet and its place
+-- a reader is its sheet and its place
 same-reader : (x y : Reader) → x .sheet ≡ y .sheet → x .place ≡ y .place → x ≡ y
 same-reader x y p q = ap (λ (s : RefT (List ℕ)). record { sheet = s; place = x .place }) p ∙ ap (λ (n : ℕ). record { sheet = y .sheet; place = n }) q
 
-pub begin : (sheet : RefT (List ℕ)) (x y : Reader) → (x .sheet ≡ sheet) × (x .place ≡ 0) → (y .sheet ≡ sheet) × (y .place ≡ 0) → x ≡ y
-begin sheet x y p q = same-reader x y (by-equation (p .0) (q .0)) (by-equation (p .1) (q .1))
+by-fields : {s : RefT (List ℕ)} {n : ℕ} (x y : Reader) → (x .sheet ≡ s) × (x .place ≡ n) → (y .sheet ≡ s) × (y .place ≡ n) → x ≡ y
+by-fields x y p q = same-reader x y (by-equation (p .0) (q .0)) (by-equation (p .1) (q .1))
 
-pub moved : (r : Reader) (to : ℕ) (x y : Reader) → (x .sheet ≡ r .sheet) × (x .place ≡ to) → (y .sheet ≡ r .sheet) × (y .place ≡ to) → x ≡ y
-moved r to x y p q = same-reader x y (by-equation (p .0) (q .0)) (by-equation (p .1) (q .1))
+-- of those over a reader, whose proofs are walks: by their own clauses
+pub begin : SettledWalked begin-contract.ended (λ M. begin-contract.clauses) Reader (λ κs x e. x)
+begin M 𝓤 H A mem run κs a g x y e f = one-clause 𝓤 (by-fields x y)
 
-pub place : (r : Reader) (x y : ℕ) → x ≡ r .place → y ≡ r .place → x ≡ y
-place r x y = by-equation
+pub moved : SettledWalked moved-contract.ended (λ M. moved-contract.clauses) Reader (λ κs x e. x)
+moved M 𝓤 H A mem run κs a g x y e f = one-clause 𝓤 (by-fields x y)
 
-pub next : (r : Reader) (x y : Ahead) → x ≡ nextIn (now (r .sheet)) (r .place) → y ≡ nextIn (now (r .sheet)) (r .place) → x ≡ y
-next r x y = by-equation
+pub place : SettledWalked place-contract.ended (λ M. place-contract.clauses) ℕ (λ κs x e. x)
+place M 𝓤 H A mem run κs a g x y e f = one-clause 𝓤 by-equation
 
-pub shown : (r : Reader) (length : ℕ) (x y : RefT (List ℕ)) → now x ≡ shownAt (now (r .sheet)) (r .place) length → now y ≡ shownAt (now (r .sheet)) (r .place) length → now x ≡ now y
-shown r length x y = by-equation
+pub next : SettledWalked next-contract.ended (λ M. next-contract.clauses) Ahead (λ κs x e. x)
+next M 𝓤 H A mem run κs a g x y e f = one-clause 𝓤 by-equation
+
+-- of the part that is handed back, its bytes
+pub shown : SettledWalked shown-contract.ended (λ M. shown-contract.clauses) (List ℕ) (λ κs x e. now x)
+shown M 𝓤 H A mem run κs a g x y e f = one-clause 𝓤 by-equation
