@@ -6,11 +6,12 @@ use mathlib.Core.List.{List, [], _∷_, _++_}
 use Prim.Native.Nat.{ℕ, _≤_, _<_}
 use native.Mathlib.Omega.{arith}
 use lib.Dec.{leb, eqb}
-use borrow.Author.Tests.{eqb-true, eqb-false, leb-true, leb-false}
+use borrow.Author.Tests.{eq-eqb, eqb-true, eqb-false, leb-true, leb-false}
 use Rattle.shape.specs.Bytes.{every}
 use Rattle.table.specs.declared.Kind.{Kind}
 use Rattle.table.specs.declared.Kind.the-variants.{Pacs008, Camt050, Pacs028}
 use Rattle.table.specs.Checks.{orderOf}
+use Rattle.slip.specs.declared.Status.the-variants.{Accc}
 use Rattle.slip.specs.Meaning.{statusNumber}
 use Rattle.message.specs.declared.Message.{Message}
 use Rattle.message.specs.declared.Answer.{Answer}
@@ -19,19 +20,33 @@ use Rattle.message.specs.Received.{receivedOf}
 use Rattle.message.specs.Due.{Due}
 use Rattle.message.proofs.Due.{due-received}
 use Rattle.directory.specs.declared.Participant.{Participant}
-use Rattle.layout.specs.Seat.{seatOf}
+use Rattle.layout.specs.declared.rows.Step.{Step}
+use Rattle.layout.specs.Seat.{headOf, stepOf, seatOf}
 use Rattle.journal.specs.declared.results.Outcome.{Outcome}
 use Rattle.judge.specs.declared.case.Case.{Case}
 use Rattle.judge.specs.Case.{caseOf}
-use Rattle.judge.specs.Rows.{askedAfter}
-use Rattle.judge.specs.Verdict.{fails, verdict, toldOf, outcome, carried}
-use Rattle.judge.proofs.Ends.{told-apart}
+use Rattle.judge.specs.Verdict.{fails, verdict, outcome, carried}
+use Rattle.judge.proofs.Ends.{told-apart, carried-none}
 use Rattle.centre.specs.declared.Ticket.{Ticket}
-use Rattle.centre.specs.Answers.{Told, done, refusedWith}
+use Rattle.centre.specs.Answers.{Told, refusedWith}
 use Rattle.centre.specs.Submit.{notTaken, submitTold, submitAfter, submitSlip}
 use Rattle.centre.proofs.Judged.{not-one, not-two}
 use Rattle.demands.specs.Refusals.{Exactly}
-use Rattle.demands.specs.Messages.{accepted, failedBy, noMove, Heard, Recorded, Unmoved, Transferred, CarriedOut, FailedBy, Judged, Heeded, Demand2}
+use Rattle.demands.specs.Messages.{
+  accepted,
+  failedAs,
+  failedBy,
+  noMove,
+  Heard,
+  Recorded,
+  Unmoved,
+  CarriedOut,
+  FailedBy,
+  EndedBy,
+  Judged,
+  Heeded,
+  Demand2,
+}
 use Rattle.demands.proofs.Decided.{
   verdict-none,
   verdict-first,
@@ -45,9 +60,20 @@ use Rattle.demands.proofs.Decided.{
   failed-rests,
 }
 use Rattle.demands.proofs.Heard.{Facts, facts, Read, read-good}
-use Rattle.demands.proofs.Taken.{seat-open, told-done, not-taken, Took, took}
+use Rattle.demands.proofs.Taken.{seat-open, not-taken, place-free, told-done, stored-outcome}
 use Rattle.demands.proofs.Money.{rested, passed-carried}
 use Rattle.demands.proofs.Slips.{slips}
+
+-- ACCC is not the status of an empty place, and a transfer that has it is carried out
+accc-some : 0 ≡ statusNumber Accc → ⊥
+unfolding statusNumber
+accc-some e = eqb-false 0 1 refl e
+
+accepted-carried : (kind : Kind) (o : Outcome) → (kind ≡ Pacs028 → ⊥) → o .status ≡ statusNumber Accc → carried kind o ≡ true
+unfolding carried
+accepted-carried Pacs008 o transfers e = eq-eqb (o .status) (statusNumber Accc) e
+accepted-carried Camt050 o transfers e = eq-eqb (o .status) (statusNumber Accc) e
+accepted-carried Pacs028 o transfers e = absurd (transfers refl)
 
 -- ACCC is neither of the ends of a failing message
 accepted-apart : (kind : Kind) (k : ℕ) → accepted ≡ failedBy kind k → ⊥
@@ -90,29 +116,28 @@ module _ (dir : List Participant) (ticket : Ticket) (sender today : ℕ) (sheet 
   apart Pacs028 k high e =
       told-apart case place (seat-open dir ticket sender today sheet slip room f m good) k (λ (z : k ≡ 0). omega arith) e
 
-  -- a verdict that is taken is 0 or a later check
-  taken-high : notTaken (verdict case place) ≡ false → (verdict case place ≡ 0 → ⊥) → 2 < verdict case place
-  taken-high takes some = omega (arith, some, not-one (verdict case place) takes, not-two (verdict case place) takes)
+  -- what stands in its place in the journal
+  abbrev stored : Step
+  stored = stepOf (seatOf (submitAfter dir ticket sender today sheet slip room) (ticket .seat)) (headOf place .steps)
 
-  -- recorded as one that passes, it has passed
-  recorded-passed : notTaken (verdict case place) ≡ false → outcome case place ≡ passedAs (m .kind) case place → verdict case place ≡ 0
-  recorded-passed takes ended = go (eqb (verdict case place) 0) refl
-    where
-      go : (t : Bool) → eqb (verdict case place) 0 ≡ t → verdict case place ≡ 0
-      go true e = eqb-true (verdict case place) 0 e
-      go false e =
-          let high : 2 < verdict case place = taken-high takes (eqb-false (verdict case place) 0 e) in
-          absurd (apart (m .kind) (verdict case place) high (sym ended ∙ ends-failed (verdict case place) high refl))
+  stored-status : notTaken (verdict case place) ≡ false → stored .status ≡ outcome case place .status
+  stored-status takes = ap (λ (o : Outcome). o .status) (stored-outcome dir ticket sender today sheet slip room f m good takes)
 
-  -- carried out, it has passed
-  by-kind : (kind : Kind) → m .kind ≡ kind → CarriedOut dir ticket sender today sheet slip room kind m → verdict case place ≡ 0
-  by-kind kind same out = recorded-passed (ended kind out .takes) (ended kind out .ends ∙ ap (λ (k : Kind). passedAs k case place) (sym same))
+  -- a transfer that has ACCC was carried out, and so passed
+  has-passed : (m .kind ≡ Pacs028 → ⊥) → stored .status ≡ statusNumber Accc → verdict case place ≡ 0
+  unfolding caseOf
+  has-passed transfers e = go (notTaken (verdict case place)) refl
     where
-      ended : (kind : Kind) → CarriedOut dir ticket sender today sheet slip room kind m
-          → Took dir ticket sender today sheet slip room f m good (passedAs kind case place)
-      ended Pacs008 out = took dir ticket sender today sheet slip room f m good accepted (out .move) (out .recorded)
-      ended Camt050 out = took dir ticket sender today sheet slip room f m good accepted (out .move) (out .recorded)
-      ended Pacs028 out = took dir ticket sender today sheet slip room f m good (toldOf (askedAfter case place) place) noMove (out .0)
+      go : (t : Bool) → notTaken (verdict case place) ≡ t → verdict case place ≡ 0
+      go true refuses =
+          absurd (accc-some (ap (λ (x : Step). x .status) (sym (place-free dir ticket sender today sheet slip room f m good refuses)) ∙ e))
+      go false takes = carried-none case place (accepted-carried (m .kind) (outcome case place) transfers (sym (stored-status takes) ∙ e))
+
+  -- and one that passed has it
+  has-accepted : (kind : Kind) → (kind ≡ Pacs028 → ⊥) → CarriedOut dir ticket sender today sheet slip room kind m → stored .status ≡ statusNumber Accc
+  has-accepted Pacs008 transfers out = ap (λ (x : Step). x .status) (out .recorded .stored)
+  has-accepted Camt050 transfers out = ap (λ (x : Step). x .status) (out .recorded .stored)
+  has-accepted Pacs028 transfers out = absurd (transfers refl)
 
   -- no check has the number 0
   not-zero : (k : ℕ) → fails case place k ≡ true → k ≡ 0 → ⊥
@@ -135,7 +160,7 @@ module _ (dir : List Participant) (ticket : Ticket) (sender today : ℕ) (sheet 
         rested dir ticket sender today sheet slip room f m good (ap notTaken first ∙ high-taken k high) (failedBy (m .kind) k)
         (ends-failed k high first) (ap (carried (m .kind)) (ends-failed k high first) ∙ failed-rests (m .kind) k)
 
-  -- refused by check k, or recorded with it, it is the first that fails
+  -- ended by check k, it is the first that fails
   refused-first : (k : ℕ) → submitTold dir ticket sender today sheet slip room ≡ refusedWith 12 k → verdict case place ≡ k
   refused-first k e = go (notTaken (verdict case place)) refl
     where
@@ -147,36 +172,59 @@ module _ (dir : List Participant) (ticket : Ticket) (sender today : ℕ) (sheet 
           ap (λ (t : Told). t .number) (sym (told-done dir ticket sender today sheet slip room f m good takes) ∙ e) in
           absurd (omega arith)
 
-  recorded-first : (k : ℕ) → 2 < k → Recorded dir ticket sender today sheet slip room m (failedBy (m .kind) k) noMove → verdict case place ≡ k
-  recorded-first k high r = go (eqb (verdict case place) 0) refl
+  outcome-first : notTaken (verdict case place) ≡ false → (k : ℕ) → 2 < k → outcome case place ≡ failedBy (m .kind) k → verdict case place ≡ k
+  outcome-first takes k high ended = go (eqb (verdict case place) 0) refl
     where
-      ended : Took dir ticket sender today sheet slip room f m good (failedBy (m .kind) k)
-      ended = took dir ticket sender today sheet slip room f m good (failedBy (m .kind) k) noMove r
-
       go : (t : Bool) → eqb (verdict case place) 0 ≡ t → verdict case place ≡ k
-      go true e = absurd (apart (m .kind) k high (sym (ends-passed (eqb-true (verdict case place) 0 e)) ∙ ended .ends))
+      go true e = absurd (apart (m .kind) k high (sym (ends-passed (eqb-true (verdict case place) 0 e)) ∙ ended))
       go false e =
-          let later : 2 < verdict case place = taken-high (ended .takes) (eqb-false (verdict case place) 0 e) in
-          ap (λ (o : Outcome). o .check) (sym (ends-failed (verdict case place) later refl) ∙ ended .ends)
+          let some : verdict case place ≡ 0 → ⊥ = eqb-false (verdict case place) 0 e in
+          let later : 2 < verdict case place = omega (arith, some, not-one (verdict case place) takes, not-two (verdict case place) takes) in
+          ap (λ (o : Outcome). o .check) (sym (ends-failed (verdict case place) later refl) ∙ ended)
 
-  failed-first : (k : ℕ) → FailedBy dir ticket sender today sheet slip room m k → verdict case place ≡ k
-  failed-first k failed = go (leb k 2) refl
+  stored-first : (k : ℕ) → 2 < k → stored .status ≡ statusNumber (failedAs (m .kind)) → stored .check ≡ k → verdict case place ≡ k
+  stored-first k high status check = go (notTaken (verdict case place)) refl
+    where
+      go : (t : Bool) → notTaken (verdict case place) ≡ t → verdict case place ≡ k
+      go true refuses =
+          let none : 0 ≡ k = ap (λ (x : Step). x .check) (sym (place-free dir ticket sender today sheet slip room f m good refuses)) ∙ check in
+          absurd (omega arith)
+      go false takes =
+          let both : record { status = stored .status; check = stored .check } ≡ failedBy (m .kind) k = rw (status, check) in
+          outcome-first takes k high (sym (stored-outcome dir ticket sender today sheet slip room f m good takes) ∙ both)
+
+  ended-first : (k : ℕ) → EndedBy dir ticket sender today sheet slip room m k → verdict case place ≡ k
+  ended-first k ended = go (leb k 2) refl
     where
       go : (t : Bool) → leb k 2 ≡ t → verdict case place ≡ k
-      go true e = refused-first k (failed .refuses (leb-true k 2 e) .0)
-      go false e = recorded-first k (leb-false k 2 e) (failed .records (leb-false k 2 e) .0)
+      go true e = refused-first k (ended .refused (leb-true k 2 e))
+      go false e =
+          let high : 2 < k = leb-false k 2 e in
+          stored-first k high (ended .stored high .0) (ended .stored high .1)
+
+  -- and the other way: what it shows is a part of how it ended
+  shows-end : (k : ℕ) → FailedBy dir ticket sender today sheet slip room m k → EndedBy dir ticket sender today sheet slip room m k
+  shows-end k failed = record {
+    refused = λ low. failed .refuses low .0;
+    stored = λ high.
+        let step = failed .records high .0 .stored in
+        (ap (λ (x : Step). x .status) step, ap (λ (x : Step). x .check) step);
+  }
+
+  fails-so : (k : ℕ) → verdict case place ≡ k → fails case place k ≡ true → FailedBy dir ticket sender today sheet slip room m k
+  fails-so k first t = record { refuses = refused-low k first t; records = failed-high k first }
+
+  carried-so : every (λ (k : ℕ). not (fails case place k)) (orderOf (m .kind)) ≡ true → CarriedOut dir ticket sender today sheet slip room (m .kind) m
+  carried-so e = passed-carried dir ticket sender today sheet slip room f m good (passes-all .0 e)
 
   pub judged : Judged dir ticket sender today sheet slip room m
   judged = record {
-    carried = (
-      λ e. passed-carried dir ticket sender today sheet slip room f m good (passes-all .0 e),
-      λ out. passes-all .1 (by-kind (m .kind) refl out),
-    );
-    failed = λ before k later split. (
-      λ h.
-          let first : verdict case place ≡ k = fails-first before k later split .0 h in
-          record { refuses = refused-low k first (h .1); records = failed-high k first },
-      λ failed. fails-first before k later split .1 (failed-first k failed),
+    carried = carried-so;
+    failed = λ before k later split e t. fails-so k (fails-first before k later split .0 (e, t)) t;
+    accepts = λ transfers. (λ e. passes-all .1 (has-passed transfers e), λ e. has-accepted (m .kind) transfers (carried-so e));
+    ends = λ before k later split. (
+      λ ended. fails-first before k later split .1 (ended-first k ended),
+      λ h. shows-end k (fails-so k (fails-first before k later split .0 h) (h .1)),
     );
   }
 

@@ -30,6 +30,7 @@ by-received dir room call =
     record {
       given = given-exactly number (tableOf dir room call) (table-distinct dir room call) (answers .number);
       done = zero-exactly number (tableOf dir room call) (table-distinct dir room call) (answers .number);
+      gives = answers .gives;
       detail = answers .plain;
       stays = call-stays dir room call;
     }

@@ -211,7 +211,7 @@ module _ (dir : List Participant) (ticket : Ticket) (room : List ℕ) (first sec
   ends-by : (check : ℕ) → fails secondCase seatThen check ≡ true → EndsBy check dir ticket room first second m n
   ends-by check fails-so before later split passed =
       judged dir ticket (second .sender) (second .today) (second .sheet) (second .slip) then second-facts n second-good
-      .failed before check later split .0 (passed, fails-so)
+      .failed before check later split passed fails-so
 
   uetr-repeated : (m .kind ≡ Pacs028 → ⊥) → n .uetr ≡ m .uetr → fails secondCase seatThen 17 ≡ true
   unfolding fails rowsOf caseOf

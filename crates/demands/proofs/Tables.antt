@@ -7,7 +7,10 @@ use mathlib.Core.List.{List, [], _∷_, map}
 use Prim.Native.Nat.{ℕ, suc}
 use lib.Dec.{leb, ltb, eqb}
 use lib.ListN.{length}
+use borrow.Author.Tests.{eqb-false, not-true}
+use Rattle.shape.specs.Bytes.{every}
 use Rattle.shape.specs.Dates.{isDate}
+use Rattle.shape.proofs.Tests.{and-left, and-right}
 use Rattle.slip.specs.Meaning.{slipLong, openings, steps}
 use Rattle.slip.specs.Image.{slipOf}
 use Rattle.slip.specs.Answers.{canWrite, holdsSlip}
@@ -39,6 +42,7 @@ use Rattle.demands.specs.Refusals.{
   sheetIn,
   table,
   detailOf,
+  givesBack,
 }
 use Rattle.demands.proofs.Firsts.{firstNumber, distinct}
 
@@ -65,10 +69,24 @@ first-plain detail [] values all some = absurd (some refl)
 first-plain detail ((true, line) ∷ lines) values all some = all .0
 first-plain detail ((false, line) ∷ lines) values all some = first-plain detail lines values (all .1) some
 
--- an answer by a table: the number of its first row that applies, and where that is not 0 the detail of that number and no values
-pub record Tells (told : Told) (rows : List (ℕ × Bool)) (detail : ℕ → ℕ) : Type 0 where
+-- a table whose lines all refuse: the answer is 0 only where none of them is given
+abbrev allRefuse : List (Bool × Told) → Bool
+allRefuse lines = every (λ (line : Bool × Told). not (eqb (line .1 .number) 0)) lines
+
+first-done : (lines : List (Bool × Told)) (values : List ℕ) → allRefuse lines ≡ true → first lines (done values) .number ≡ 0
+    → first lines (done values) ≡ done values
+first-done [] values all e = refl
+first-done ((true, line) ∷ lines) values all e =
+    absurd (eqb-false (line .number) 0 (not-true (eqb (line .number) 0) (and-left (not (eqb (line .number) 0)) (allRefuse lines) all)) e)
+first-done ((false, line) ∷ lines) values all e =
+    first-done lines values (and-right (not (eqb (line .number) 0)) (allRefuse lines) all) e
+
+-- an answer by a table: the number of its first row that applies, and where that is not 0 the detail of that number and no values; where it is 0,
+-- what the call gives back
+pub record Tells (told : Told) (rows : List (ℕ × Bool)) (detail : ℕ → ℕ) (values : List ℕ) : Type 0 where
   pub number : told .number ≡ firstNumber rows
   pub plain : (told .number ≡ 0 → ⊥) → Plain detail told
+  pub gives : told .number ≡ 0 → told ≡ done values
 
 -- the tests of an opening stand in front of those of acts, which are false there
 or-false : (t : Bool) → (t || false) ≡ t
@@ -76,10 +94,10 @@ or-false true = refl
 or-false false = refl
 
 -- by its lines: their numbers are first as those of the rows
-tells : {rows : List (ℕ × Bool)} {detail : ℕ → ℕ} (lines : List (Bool × Told)) (values : List ℕ) → firstNumber (numbers lines) ≡ firstNumber rows
-    → AllPlain detail lines → Tells (first lines (done values)) rows detail
-tells {detail = detail} lines values same all =
-    record { number = first-number lines values ∙ same; plain = first-plain detail lines values all }
+tells : {rows : List (ℕ × Bool)} {detail : ℕ → ℕ} (lines : List (Bool × Told)) (values : List ℕ) → allRefuse lines ≡ true
+    → firstNumber (numbers lines) ≡ firstNumber rows → AllPlain detail lines → Tells (first lines (done values)) rows detail values
+tells {detail = detail} lines values refuse same all =
+    record { number = first-number lines values ∙ same; plain = first-plain detail lines values all; gives = first-done lines values refuse }
 
 -- of each call: its lines are the rows of the table that concern it, in the same order; the other rows compute to false
 module _ (dir : List Participant) (room : List ℕ) where
@@ -87,22 +105,25 @@ module _ (dir : List Participant) (room : List ℕ) where
   abbrev pub got : Call → Answer
   got call = receivedOf (sheetIn call) .answer
 
-  -- the table of a call, and the details of its refusals
+  -- the table of a call, the details of its refusals, and what it gives back
   abbrev pub tableOf : Call → List (ℕ × Bool)
   tableOf call = table dir room (got call) call
 
   abbrev pub detailsOf : Call → ℕ → ℕ
   detailsOf call = detailOf dir room (got call) call
 
+  abbrev pub valuesOf : Call → List ℕ
+  valuesOf call = givesBack dir room (got call) call
+
   pub table-distinct : (call : Call) → distinct (tableOf call) ≡ true
   unfolding table
   table-distinct call = refl
 
   act-tells : (ticket : Ticket) (act : Act)
-      → Tells (callTold dir (under ticket act) room) (tableOf (under ticket act)) (detailsOf (under ticket act))
+      → Tells (callTold dir (under ticket act) room) (tableOf (under ticket act)) (detailsOf (under ticket act)) (valuesOf (under ticket act))
   unfolding callTold actTold closeTold setTold submitTold backTold readTold table roomRefused directoryRefused ticketRefused openRefused lastRefused numberRefused slipRefused notTaken
   act-tells ticket close =
-      tells ((not (roomFits room), refused 1) ∷ (ticketBad ticket room, refused 3) ∷ []) [] refl ((refl, refl), ((refl, refl), tt))
+      tells ((not (roomFits room), refused 1) ∷ (ticketBad ticket room, refused 3) ∷ []) [] refl refl ((refl, refl), ((refl, refl), tt))
   act-tells ticket (set owner number wish) =
       tells (
       (not (roomFits room), refused 1)
@@ -110,7 +131,7 @@ module _ (dir : List Participant) (room : List ℕ) where
       ∷ (ticketBad ticket room, refused 3)
       ∷ (not (accountNamed (found dir owner) number && settingsFit (settingsOf wish)), refused 6)
       ∷ (eqb (headOf (seatOf room (ticket .seat)) .steps) steps, refused 9)
-      ∷ []) [] refl ((refl, refl), ((refl, refl), ((refl, refl), ((refl, refl), ((refl, refl), tt)))))
+      ∷ []) [] refl refl ((refl, refl), ((refl, refl), ((refl, refl), ((refl, refl), ((refl, refl), tt)))))
   act-tells ticket (submit sender today sheet slip) =
       let s : List ℕ = seatOf room (ticket .seat) in
       let received : Answer = receivedOf sheet .answer in
@@ -124,24 +145,24 @@ module _ (dir : List Participant) (room : List ℕ) where
       ∷ (eqb (numberOf received .0) 7, refusedWith 7 (numberOf received .1))
       ∷ (eqb (numberOf received .0) 8, refusedWith 8 (numberOf received .1))
       ∷ (notTaken (verdictOn (caseOf dir sender today) received s), refusedWith 12 (verdictOn (caseOf dir sender today) received s))
-      ∷ []) [] refl
+      ∷ []) [] refl refl
       ((refl, refl), ((refl, refl), ((refl, refl), ((refl, refl), ((refl, refl), ((refl, refl), ((refl, refl), ((refl, refl), ((refl, refl), tt)))))))))
   act-tells ticket takeBack =
       tells (
       (not (roomFits room), refused 1)
       ∷ (ticketBad ticket room, refused 3)
       ∷ (eqb (headOf (seatOf room (ticket .seat)) .steps) 0, refused 10)
-      ∷ []) [] refl ((refl, refl), ((refl, refl), ((refl, refl), tt)))
+      ∷ []) [] refl refl ((refl, refl), ((refl, refl), ((refl, refl), tt)))
   act-tells ticket (read owner number) =
       tells (
       (not (roomFits room), refused 1)
       ∷ (not (isFit dir), refused 2)
       ∷ (ticketBad ticket room, refused 3)
       ∷ (not (accountNamed (found dir owner) number), refused 6)
-      ∷ []) (accountRow (accountOf (seatOf room (ticket .seat)) (accountNumber (found dir owner) number))) refl
+      ∷ []) (accountRow (accountOf (seatOf room (ticket .seat)) (accountNumber (found dir owner) number))) refl refl
       ((refl, refl), ((refl, refl), ((refl, refl), ((refl, refl), tt))))
 
-  pub call-tells : (call : Call) → Tells (callTold dir call room) (tableOf call) (detailsOf call)
+  pub call-tells : (call : Call) → Tells (callTold dir call room) (tableOf call) (detailsOf call) (valuesOf call)
   unfolding callTold openTold writeTold slipTold table roomRefused directoryRefused ticketRefused openRefused lastRefused numberRefused slipRefused
   call-tells (opening seat sums) =
       tells (
@@ -151,9 +172,9 @@ module _ (dir : List Participant) (room : List ℕ) where
       ∷ (eqb (headOf (seatOf room seat) .opened) 1, refused 4)
       ∷ (eqb (headOf (seatOf room seat) .opening) openings, refused 5)
       ∷ (not (sumsGood dir sums), refused 6)
-      ∷ []) (suc (headOf (seatOf room seat) .opening) ∷ [])
+      ∷ []) (suc (headOf (seatOf room seat) .opening) ∷ []) refl
       (rw (or-false (not (roomFits room)), or-false (not (isFit dir)), or-false (noSeat seat), or-false (not (sumsGood dir sums))))
       ((refl, refl), ((refl, refl), ((refl, refl), ((refl, refl), ((refl, refl), ((refl, refl), tt))))))
   call-tells (under ticket act) = act-tells ticket act
-  call-tells (writing slip buffer) = tells ((not (canWrite slip buffer), refused 11) ∷ []) [] refl ((refl, refl), tt)
-  call-tells (reading bytes) = tells ((not (holdsSlip bytes), refused 11) ∷ []) (slipValues (slipOf bytes)) refl ((refl, refl), tt)
+  call-tells (writing slip buffer) = tells ((not (canWrite slip buffer), refused 11) ∷ []) [] refl refl ((refl, refl), tt)
+  call-tells (reading bytes) = tells ((not (holdsSlip bytes), refused 11) ∷ []) (slipValues (slipOf bytes)) refl refl ((refl, refl), tt)

@@ -2,7 +2,7 @@
 -- the seat can take, with its slip in the buffer.
 -- Assumes nothing.
 use mathlib.Core.Path.{_≡_, refl, sym, ap, subst, _∙_}
-use mathlib.Core.Bool.{Bool, true, false}
+use mathlib.Core.Bool.{true, false}
 use mathlib.Core.List.{List, [], _++_}
 use Prim.Native.Nat.{ℕ, suc, _-_, _≤_, _<_}
 use native.Mathlib.Omega.{arith}
@@ -22,7 +22,7 @@ use Rattle.directory.specs.Directory.{codeMost}
 use Rattle.layout.specs.declared.rows.Step.{Step}
 use Rattle.layout.specs.Seat.{accounts, seatLong, headOf, accountOf, stepOf, seatOf, withSeat}
 use Rattle.layout.proofs.Rooms.{seat-got}
-use Rattle.journal.specs.Steps.{stepFits}
+use Rattle.journal.specs.Steps.{noStep, stepFits}
 use Rattle.journal.specs.Working.{stepped, covered, possible}
 use Rattle.journal.proofs.Backed.{possible-fits}
 use Rattle.journal.proofs.Changed.{after, stepped-length, stepped-head, stepped-last, stepped-other, stepped-account}
@@ -30,6 +30,7 @@ use Rattle.seat.specs.Fit.{openFits, seatFits}
 use Rattle.seat.proofs.Answered.{ticket-good}
 use Rattle.seat.proofs.Forward.{open-fits}
 use Rattle.seat.proofs.Kept.{fit-long, fit-open}
+use Rattle.seat.proofs.Reached.{fit-free}
 use Rattle.seat.proofs.Rooms.{room-long, room-seat}
 use Rattle.judge.specs.declared.case.Case.{Case}
 use Rattle.journal.specs.declared.results.Outcome.{Outcome}
@@ -37,7 +38,7 @@ use Rattle.judge.specs.Case.{caseOf, Arises}
 use Rattle.judge.specs.Verdict.{verdict, outcome, stepMade, judgedStep}
 use Rattle.judge.proofs.Possible.{judged-says, judged-possible}
 use Rattle.centre.specs.declared.Ticket.{Ticket}
-use Rattle.centre.specs.Answers.{Told, done, refusedWith, slipValues, isDone}
+use Rattle.centre.specs.Answers.{done, refusedWith, slipValues, isDone}
 use Rattle.centre.specs.Submit.{verdictOn, notTaken, stepOn, slipOf, judgedTold, submitTold, submitAfter, submitSlip}
 use Rattle.centre.specs.Slips.{readTold}
 use Rattle.centre.proofs.First.{behind-done, behind-refused}
@@ -122,6 +123,11 @@ module _ (dir : List Participant) (ticket : Ticket) (sender today : ℕ) (sheet 
       behind-refused (submitTold dir ticket sender today sheet slip room)
           (image (slipOf ticket (suc (headOf place .steps)) (stepOn (caseOf dir sender today) (receivedOf sheet .answer) place)) ++ drop slipLong slip) slip over,
     )
+
+    -- so its place in the journal is still free
+    pub place-free : stepOf (seatOf (submitAfter dir ticket sender today sheet slip room) (ticket .seat)) (headOf place .steps) ≡ noStep
+    place-free =
+        ap (λ (r : List ℕ). stepOf (seatOf r (ticket .seat)) (headOf place .steps)) (not-taken .1) ∙ fit-free place seat-long seat-open steps-low
 
   -- taken
   module _ (takes : notTaken (verdict case place) ≡ false) where
@@ -245,22 +251,9 @@ module _ (dir : List Participant) (ticket : Ticket) (sender today : ℕ) (sheet 
         subst (λ (x : Outcome). Recorded dir ticket sender today sheet slip room m x move) e
         (subst (λ (x : Move). Recorded dir ticket sender today sheet slip room m (outcome case place) x) moves outcome-recorded)
 
-    -- and with no other outcome
-    same-outcome : (o : Outcome) (move : Move)
-        → stepOf (seatOf (submitAfter dir ticket sender today sheet slip room) (ticket .seat)) (headOf place .steps)
-        ≡ stepStored dir ticket sender today sheet slip room m o move → outcome case place ≡ o
-    same-outcome o move e = ap (λ (x : Step). record { status = x .status; check = x .check }) (sym (step-after ∙ made-so) ∙ e)
-
-  -- whatever outcome a message is recorded with, it was taken, and that is its outcome
-  pub record Took (o : Outcome) : Type 0 where
-    pub takes : notTaken (verdict case place) ≡ false
-    pub ends : outcome case place ≡ o
-
-  pub took : (o : Outcome) (move : Move) → Recorded dir ticket sender today sheet slip room m o move → Took o
-  took o move r = go (notTaken (verdict case place)) refl
-    where
-      go : (t : Bool) → notTaken (verdict case place) ≡ t → Took o
-      go true e =
-          let twelve : _≡_ {A = ℕ} 12 0 = ap (λ (t : Told). t .number) (sym (told-refused e) ∙ r .answered) in
-          absurd (omega arith)
-      go false e = record { takes = e; ends = same-outcome e o move (r .stored) }
+    -- and its place shows that outcome
+    pub stored-outcome : record {
+      status = stepOf (seatOf (submitAfter dir ticket sender today sheet slip room) (ticket .seat)) (headOf place .steps) .status;
+      check = stepOf (seatOf (submitAfter dir ticket sender today sheet slip room) (ticket .seat)) (headOf place .steps) .check;
+    } ≡ outcome case place
+    stored-outcome = ap (λ (x : Step). record { status = x .status; check = x .check }) (step-after ∙ made-so)

@@ -177,12 +177,22 @@ module _ (dir : List Participant) (ticket : Ticket) (sender today : ℕ) (sheet 
     pub refuses : k ≤ 2 → (answer ≡ refusedWith 12 k) × (roomThen ≡ room) × (slipThen ≡ slip)
     pub records : 2 < k → Recorded m (failedBy (m .kind) k) noMove × Unmoved
 
+  -- that it ended by the check, as far as its answer and its place in the journal show it
+  pub record EndedBy (m : Message) (k : ℕ) : Type 0 where
+    pub refused : k ≤ 2 → answer ≡ refusedWith 12 k
+    pub stored : 2 < k → (stepOf seatThen count .status ≡ statusNumber (failedAs (m .kind))) × (stepOf seatThen count .check ≡ k)
+
   pub record Judged (m : Message) : Type 0 where
-    -- it is carried out exactly when every check of the kind's order passes
-    pub carried : Exactly (every (passes m) (orderOf (m .kind)) ≡ true) (CarriedOut (m .kind) m)
-    -- and the first failing one in that order is its end exactly otherwise
+    -- it is carried out where every check of the kind's order passes, and ends by the first failing one in that order where one fails
+    pub carried : every (passes m) (orderOf (m .kind)) ≡ true → CarriedOut (m .kind) m
     pub failed : (before : List ℕ) (k : ℕ) (later : List ℕ) → orderOf (m .kind) ≡ before ++ (k ∷ later)
-        → Exactly ((every (passes m) before ≡ true) × (fails (caseOn m) seat k ≡ true)) (FailedBy m k)
+        → every (passes m) before ≡ true → fails (caseOn m) seat k ≡ true → FailedBy m k
+    -- a transfer has ACCC exactly when every check of its order passes
+    pub accepts : (m .kind ≡ Pacs028 → ⊥)
+        → Exactly (stepOf seatThen count .status ≡ statusNumber Accc) (every (passes m) (orderOf (m .kind)) ≡ true)
+    -- and a message ends by a check of its order exactly when that is the first failing one
+    pub ends : (before : List ℕ) (k : ℕ) (later : List ℕ) → orderOf (m .kind) ≡ before ++ (k ∷ later)
+        → Exactly (EndedBy m k) ((every (passes m) before ≡ true) × (fails (caseOn m) seat k ≡ true))
 
   -- where nothing but a check refuses, the sheet is a message, and it is judged so
   pub record Heeded (received : Answer) : Type 0 where

@@ -4,22 +4,24 @@
 use mathlib.Core.Bool.{Bool, true, false, not, _&&_, _||_, cond}
 use mathlib.Core.List.{List, [], _∷_, _++_}
 use mathlib.Core.Path.{_≡_}
-use Prim.Native.Nat.{ℕ}
+use Prim.Native.Nat.{ℕ, suc}
 use lib.Dec.{eqb}
 use lib.ListN.{length}
 use Rattle.shape.specs.Bytes.{every}
+use Rattle.slip.specs.Image.{slipOf}
 use Rattle.slip.specs.Answers.{bufferShort}
 use Rattle.message.specs.declared.Answer.{Answer}
 use Rattle.message.specs.Lowest.{numberOf}
 use Rattle.message.specs.Due.{Due}
 use Rattle.directory.specs.declared.Participant.{Participant}
 use Rattle.directory.specs.Directory.{found, isFit}
-use Rattle.layout.specs.Seat.{roomLong, seatOf}
+use Rattle.layout.specs.Rows.{accountRow}
+use Rattle.layout.specs.Seat.{roomLong, headOf, accountOf, seatOf}
 use Rattle.seat.specs.Fit.{roomFits}
-use Rattle.seat.specs.Calls.{seatOpen, lastGivenOut, journalFull, nothingToTakeBack, sumsBad, accountBad, settingBad, settingsOf}
+use Rattle.seat.specs.Calls.{seatOpen, lastGivenOut, journalFull, nothingToTakeBack, sumsBad, accountBad, settingBad, accountNumber, settingsOf}
 use Rattle.judge.specs.Case.{caseOf}
 use Rattle.centre.specs.declared.Ticket.{Ticket}
-use Rattle.centre.specs.Answers.{refused, done as finished}
+use Rattle.centre.specs.Answers.{done as finished, refused, slipValues}
 use Rattle.centre.specs.Calls.{noSeat, ticketBad, layTold, layAfter}
 use Rattle.centre.specs.Slips.{writeBad, readBad}
 use Rattle.centre.specs.Submit.{callBad, sheetBad, fieldBad, notTaken, verdictOn}
@@ -162,6 +164,18 @@ module _ (dir : List Participant) (room : List ℕ) (received : Answer) where
   detailOf (writing slip buffer) n = 0
   detailOf (reading bytes) n = 0
 
+  -- what a call that is done gives back: the opening number, one above the seat's last; all that the account holds; what the slip says
+  abbrev pub givesBack : Call → List ℕ
+  givesBack (opening seat sums) = suc (headOf (seatOf room seat) .opening) ∷ []
+  givesBack (under ticket close) = []
+  givesBack (under ticket (set owner number wish)) = []
+  givesBack (under ticket (submit sender today sheet slip)) = []
+  givesBack (under ticket takeBack) = []
+  givesBack (under ticket (read owner number)) =
+      accountRow (accountOf (seatOf room (ticket .seat)) (accountNumber (found dir owner) number))
+  givesBack (writing slip buffer) = []
+  givesBack (reading bytes) = slipValues (slipOf bytes)
+
 -- either way
 abbrev pub Exactly : Type 0 → Type 0 → Type 0
 Exactly A B = (A → B) × (B → A)
@@ -172,8 +186,9 @@ pub record Refused (dir : List Participant) (room : List ℕ) (received : Answer
   pub given : (before : List (ℕ × Bool)) (n : ℕ) (applies : Bool) (later : List (ℕ × Bool))
       → table dir room received call ≡ before ++ ((n, applies) ∷ later)
       → Exactly (callTold dir call room .number ≡ n) ((applies ≡ true) × (none before ≡ true))
-  -- and 0 exactly when no row applies
+  -- and 0 exactly when no row applies; then there is no detail, and the values are what the call gives back
   pub done : Exactly (callTold dir call room .number ≡ 0) (none (table dir room received call) ≡ true)
+  pub gives : callTold dir call room .number ≡ 0 → callTold dir call room ≡ finished (givesBack dir room received call)
   -- a refusal has the detail named and no values
   pub detail : (callTold dir call room .number ≡ 0 → ⊥)
       → (callTold dir call room .detail ≡ detailOf dir room received call (callTold dir call room .number)) × (callTold dir call room .values ≡ [])
