@@ -1,5 +1,6 @@
 -- What the contract of submit rules out: that it refuses by 12 a message that fails no check or records it as RJCT, that it is done without a step
--- or without a slip, and that the slip it writes has another step number than the step. Slips whose values fit their fields have the same five bytes only where they are the same.
+-- or without a slip, and that the slip it writes has another step number than the step. Slips whose values fit their fields have the same five bytes
+-- only where they are the same.
 -- Assumes nothing.
 use mathlib.Core.Path.{_≡_, refl, sym, ap, _∙_}
 use mathlib.Core.Bool.{Bool, true, false, _&&_, _||_, not, cond, false≢true}

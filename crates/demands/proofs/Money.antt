@@ -28,7 +28,7 @@ use Rattle.centre.specs.Submit.{notTaken}
 use Rattle.demands.specs.Messages.{Move, noMove, accepted, Recorded, Unmoved, Transferred, CarriedOut}
 use Rattle.demands.proofs.Decided.{passedAs, none-taken, outcome-passed, asked-rests}
 use Rattle.demands.proofs.Heard.{Facts}
-use Rattle.demands.proofs.Taken.{arises, account-behind, recorded}
+use Rattle.demands.proofs.Taken.{arises, account-after, recorded}
 use Rattle.demands.proofs.Movement.{moveIn, rests-still, rests, moves-so, carries}
 
 -- a transfer that passes is carried out
@@ -65,7 +65,7 @@ module _ (dir : List Participant) (ticket : Ticket) (sender today : ℕ) (sheet 
     recorded dir ticket sender today sheet slip room f m good takes o noMove ended
         (rests-still case (movementIn case place) (outcome case place) e),
     λ (i : ℕ) (h : i < accounts).
-        account-behind dir ticket sender today sheet slip room f m good takes i h
+        account-after dir ticket sender today sheet slip room f m good takes i h
         ∙ rests case (movementIn case place) (outcome case place) e i (accountOf place i),
   )
 
@@ -102,7 +102,7 @@ module _ (dir : List Participant) (ticket : Ticket) (sender today : ℕ) (sheet 
               (money-there case place none kind same covers (able .debit) (able .debited) (able .debit-low));
           recorded = recorded dir ticket sender today sheet slip room f m good taken accepted move ended stored;
           moved = λ (i : ℕ) (h : i < accounts).
-              account-behind dir ticket sender today sheet slip room f m good taken i h
+              account-after dir ticket sender today sheet slip room f m good taken i h
               ∙ carries case (movementIn case place) (outcome case place) done move (able .debited) (able .credited) sum i (accountOf place i);
         }
 

@@ -51,15 +51,15 @@ use Rattle.demands.proofs.Heard.{Facts, facts}
 use Rattle.demands.proofs.Taken.{head-after, step-after}
 use Rattle.demands.proofs.Heeded.{judged}
 
--- a step that is found at once is there, and one that is found behind it too
+-- a step that is found at once is there, and one that is found later too
 found-here : (t : Bool) (k : ℕ) (x : Step) (rest : Earlier) → t ≡ true → isThere (cond t (earlier.Of k x) rest) ≡ true
 unfolding isThere
 found-here t k x rest e = rw e
 
-found-behind : (t : Bool) (k : ℕ) (x : Step) (rest : Earlier) → isThere rest ≡ true → isThere (cond t (earlier.Of k x) rest) ≡ true
+found-later : (t : Bool) (k : ℕ) (x : Step) (rest : Earlier) → isThere rest ≡ true → isThere (cond t (earlier.Of k x) rest) ≡ true
 unfolding isThere
-found-behind true k x rest e = refl
-found-behind false k x rest e = e
+found-later true k x rest e = refl
+found-later false k x rest e = e
 
 -- a step of the journal leaves the trace, so a first one is there
 found-from : (trace : Trace) (s : List ℕ) (n j k : ℕ) → j ≤ k → k < j + n → leaves trace (stepOf s k) ≡ true
@@ -77,7 +77,7 @@ found-from trace s (suc n) j k low high e =
     go true same further =
         found-here (leaves trace (stepOf s j)) j (stepOf s j) rest
         (subst (λ (i : ℕ). leaves trace (stepOf s i) ≡ true) (sym (eqb-true j k same)) e)
-    go false other further = found-behind (leaves trace (stepOf s j)) j (stepOf s j) rest (further (eqb-false j k other))
+    go false other further = found-later (leaves trace (stepOf s j)) j (stepOf s j) rest (further (eqb-false j k other))
 
 found-in : (trace : Trace) (s : List ℕ) (k : ℕ) → k < headOf s .steps → leaves trace (stepOf s k) ≡ true → isThere (earliest trace s) ≡ true
 unfolding earliest journalOf

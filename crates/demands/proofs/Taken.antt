@@ -143,23 +143,23 @@ module _ (dir : List Participant) (ticket : Ticket) (sender today : ℕ) (sheet 
         possible-fits made place
         (judged-possible case place arises seat-long seat-open (not-one (verdict case place) takes) (not-two (verdict case place) takes))
 
-    room-behind : submitAfter dir ticket sender today sheet slip room ≡ withSeat room (ticket .seat) (stepped made place)
+    room-after : submitAfter dir ticket sender today sheet slip room ≡ withSeat room (ticket .seat) (stepped made place)
     unfolding submitTold submitAfter
-    room-behind =
+    room-after =
         behind-done (submitTold dir ticket sender today sheet slip room)
         (withSeat room (ticket .seat) (stepped (stepOn (caseOf dir sender today) (receivedOf sheet .answer) place) place)) room finished
         ∙ ap (λ (x : Step). withSeat room (ticket .seat) (stepped x place)) step-made
 
-    -- the seat behind has that step more
-    pub seat-behind : seatOf (submitAfter dir ticket sender today sheet slip room) (ticket .seat) ≡ stepped made place
-    seat-behind =
-        ap (λ (r : List ℕ). seatOf r (ticket .seat)) room-behind
+    -- the seat after it has that step more
+    pub seat-after : seatOf (submitAfter dir ticket sender today sheet slip room) (ticket .seat) ≡ stepped made place
+    seat-after =
+        ap (λ (r : List ℕ). seatOf r (ticket .seat)) room-after
         ∙ seat-got room (ticket .seat) (stepped made place) (room-long room (f .fit)) seat-low
         (stepped-length made place seat-long made-fits steps-low)
 
-    pub account-behind : (i : ℕ) → i < accounts
+    pub account-after : (i : ℕ) → i < accounts
         → accountOf (seatOf (submitAfter dir ticket sender today sheet slip room) (ticket .seat)) i ≡ after made i (accountOf place i)
-    account-behind i h = ap (λ (s : List ℕ). accountOf s i) seat-behind ∙ stepped-account made place seat-long made-fits steps-low i h
+    account-after i h = ap (λ (s : List ℕ). accountOf s i) seat-after ∙ stepped-account made place seat-long made-fits steps-low i h
 
     slip-made : submitSlip dir ticket sender today sheet slip room
         ≡ image (slipOf ticket (suc (headOf place .steps)) made) ++ drop slipLong slip
@@ -211,7 +211,7 @@ module _ (dir : List Participant) (ticket : Ticket) (sender today : ℕ) (sheet 
 
     -- the step stands in its place, and stores what it should
     pub step-after : stepOf (seatOf (submitAfter dir ticket sender today sheet slip room) (ticket .seat)) (headOf place .steps) ≡ made
-    step-after = ap (λ (s : List ℕ). stepOf s (headOf place .steps)) seat-behind ∙ stepped-last made place seat-long made-fits steps-low
+    step-after = ap (λ (s : List ℕ). stepOf s (headOf place .steps)) seat-after ∙ stepped-last made place seat-long made-fits steps-low
 
     made-so : made ≡ stepStored dir ticket sender today sheet slip room m (outcome case place) (moveIn made)
     unfolding judgedStep stepMade caseOf
@@ -220,16 +220,16 @@ module _ (dir : List Participant) (ticket : Ticket) (sender today : ℕ) (sheet 
     -- of the room nothing else has changed
     room-left : submitAfter dir ticket sender today sheet slip room
         ≡ withSeat room (ticket .seat) (seatOf (submitAfter dir ticket sender today sheet slip room) (ticket .seat))
-    room-left = room-behind ∙ ap (withSeat room (ticket .seat)) (sym seat-behind)
+    room-left = room-after ∙ ap (withSeat room (ticket .seat)) (sym seat-after)
 
     pub head-after : headOf (seatOf (submitAfter dir ticket sender today sheet slip room) (ticket .seat))
         ≡ record { opening = headOf place .opening; opened = headOf place .opened; steps = suc (headOf place .steps) }
-    head-after = ap headOf seat-behind ∙ stepped-head made place seat-long made-fits steps-low
+    head-after = ap headOf seat-after ∙ stepped-head made place seat-long made-fits steps-low
 
     steps-kept : (k : ℕ) → k < steps → (k ≡ headOf place .steps → ⊥)
         → stepOf (seatOf (submitAfter dir ticket sender today sheet slip room) (ticket .seat)) k ≡ stepOf place k
     steps-kept k low apart =
-        ap (λ (s : List ℕ). stepOf s k) seat-behind
+        ap (λ (s : List ℕ). stepOf s k) seat-after
         ∙ stepped-other made place seat-long made-fits steps-low k low (λ (e : headOf place .steps ≡ k). apart (sym e))
 
     -- it is recorded with its outcome and its movement

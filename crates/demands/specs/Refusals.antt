@@ -25,7 +25,24 @@ use Rattle.centre.specs.Answers.{done as finished, refused, slipValues}
 use Rattle.centre.specs.Calls.{noSeat, ticketBad, layTold, layAfter}
 use Rattle.centre.specs.Slips.{writeBad, readBad}
 use Rattle.centre.specs.Submit.{callBad, sheetBad, fieldBad, notTaken, verdictOn}
-use Rattle.demands.specs.Calls.{Act, close, set, submit, takeBack, read, Call, opening, under, writing, reading, callTold, callRoom, callSlip, slipLent, newRoom}
+use Rattle.demands.specs.Calls.{
+  Act,
+  close,
+  set,
+  submit,
+  takeBack,
+  read,
+  Call,
+  opening,
+  under,
+  writing,
+  reading,
+  callTold,
+  callRoom,
+  callSlip,
+  slipLent,
+  newRoom,
+}
 
 -- none of these rows applies
 abbrev pub none : List (ℕ × Bool) → Bool

@@ -5,8 +5,7 @@ use Prim.Native.Nat.{ℕ, _≤_}
 use lib.ListN.{length}
 use Rattle.shape.specs.Text.{bytes}
 use Rattle.sheet.specs.Grammar.{sheetMost, WellFormed}
-use Rattle.sheet.specs.Answer.{refused}
-use Rattle.sheet.specs.Right.{Right}
+use Rattle.sheet.specs.Right.{refused, Right}
 use Rattle.outline.specs.Rows.{rows}
 use Rattle.lister.specs.Listing.{linesOf, fieldsOf, decimalText}
 

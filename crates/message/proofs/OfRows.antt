@@ -10,7 +10,7 @@ use lib.ListN.{length, getD}
 use borrow.Author.Tests.{not-true, eq-eqb, eqb-true, ne-eqb}
 use Rattle.shape.specs.Bytes.{every}
 use Rattle.shape.proofs.Tests.{and-left, and-right}
-use Rattle.sheet.specs.Answer.{Reading, accepted, refused}
+use Rattle.sheet.specs.Right.{Reading, accepted, refused}
 use Rattle.outline.specs.Rows.{Row, ccyAt, insideAt, textAt, rowOn, rowsOf}
 use Rattle.outline.specs.Paths.{sameName, samePath, standing, atDepth}
 use Rattle.outline.proofs.Paths.{same-path}

@@ -35,7 +35,18 @@ use Rattle.message.specs.declared.kinds.Numbers.{Numbers}
 use Rattle.message.specs.declared.Answer.{Answer}
 use Rattle.message.specs.declared.Answer.the-variants.{IllFormed, BadField, Good}
 use Rattle.message.specs.declared.Message.{Message}
-use Rattle.message.specs.Fields.{Field, noField, fieldsOf, pacs008Fields, camt050Fields, pacs028Fields, pacs008Numbers, camt050Numbers, pacs028Numbers, numbersOf}
+use Rattle.message.specs.Fields.{
+  Field,
+  noField,
+  fieldsOf,
+  pacs008Fields,
+  camt050Fields,
+  pacs028Fields,
+  pacs008Numbers,
+  camt050Numbers,
+  pacs028Numbers,
+  numbersOf,
+}
 use Rattle.message.specs.Held.{Held, missing, once, doubled, heldIn, kindOf, heldOf}
 use Rattle.message.specs.Good.{isGiven, hasShape, ccyFits, textFits, isGood, goesWith}
 use Rattle.message.specs.Message.{textIn, numbered, nameOf, messageFrom, messageOf}

@@ -4,8 +4,7 @@ use mathlib.Core.List.{List, []}
 use Prim.Native.Nat.{ℕ, _≤_}
 use lib.ListN.{length}
 use Rattle.sheet.specs.Grammar.{sheetMost, WellFormed}
-use Rattle.sheet.specs.Answer.{refused}
-use Rattle.sheet.specs.Right.{Right}
+use Rattle.sheet.specs.Right.{refused, Right}
 use Rattle.outline.specs.Rows.{rows}
 use Rattle.message.specs.declared.Answer.{Answer}
 use Rattle.message.specs.declared.Answer.the-variants.{IllFormed}

@@ -8,7 +8,7 @@ use borrow.Author.Tests.{lt-ltb, le-ltb}
 use Prim.Native.Nat.{ℕ, _+_, _-_, _*_, _≤_, _<_}
 use lib.ListN.{getD}
 use Rattle.sheet.specs.Grammar.{elementMost, sheetMost}
-use Rattle.sheet.specs.Answer.{Reading, accepted, refused}
+use Rattle.sheet.specs.Right.{Reading, accepted, refused}
 use Rattle.sheet.specs.Right.{Right, whole, broken, long}
 use Rattle.sheet.specs.Sheet.{Answers, sheetOf}
 use Rattle.sheet.specs.declared.Sheet.{Sheet}

@@ -5,7 +5,7 @@ use Prim.Native.Nat.{ℕ, _+_, _-_, _*_}
 use lib.Dec.{ltb}
 use lib.ListN.{getD}
 use Rattle.sheet.specs.Grammar.{elementMost}
-use Rattle.sheet.specs.Answer.{Reading, accepted, refused}
+use Rattle.sheet.specs.Right.{Reading, accepted, refused}
 use Rattle.sheet.specs.Sheet.{sheetOf}
 
 -- what is added to the place of a refusal

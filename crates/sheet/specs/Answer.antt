@@ -1,4 +1,4 @@
--- What reading a sheet gives: how many elements and where, or the place of the refusal.
+-- What reading a sheet gives, worked out by the machine: how many elements and where, or the place of the refusal.
 use mathlib.Core.Bool.{cond}
 use mathlib.Core.List.{List, [], _∷_}
 use mathlib.Core.Option.{Option, none, some}
@@ -6,12 +6,8 @@ use Prim.Native.Nat.{ℕ, suc}
 use lib.Dec.{leb}
 use lib.ListN.{length, replicate}
 use Rattle.sheet.specs.Grammar.{sheetMost, elementMost}
+pub use Rattle.sheet.specs.Right.{Reading, accepted, refused}
 use Rattle.sheet.specs.Machine.{Mode, outer, begun, naming, attribute, tagged, texting, ending, between, turning, whole, State, step}
-
--- accepted, with the number of elements and the lists of their starts and depths; or refused, at a place
-pub data Reading : Type 0 where
-  accepted : ℕ → List ℕ → List ℕ → Reading
-  refused : ℕ → Reading
 
 -- the sheet ends at place i
 abbrev pub ends : State → Mode → ℕ → Reading

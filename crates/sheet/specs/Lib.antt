@@ -1,7 +1,7 @@
 pub mod Grammar
+pub mod Right
 pub mod Machine
 pub mod Answer
-pub mod Right
 pub mod Parts
 pub mod Element
 pub mod Sheet

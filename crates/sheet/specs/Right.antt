@@ -6,7 +6,11 @@ use mathlib.Core.List.{List}
 use Prim.Native.Nat.{ℕ, _≤_, _<_}
 use lib.ListN.{length, take}
 use Rattle.sheet.specs.Grammar.{countOf, startsFrom, depthsFrom, sheetMost, placed, WellFormed, Viable}
-use Rattle.sheet.specs.Answer.{Reading, accepted, refused}
+
+-- accepted, with the number of elements and the lists of their starts and depths; or refused, at a place
+pub data Reading : Type 0 where
+  accepted : ℕ → List ℕ → List ℕ → Reading
+  refused : ℕ → Reading
 
 pub data Right (s : List ℕ) : Reading → Type 0 where
   whole : (w : WellFormed s) → length s ≤ sheetMost → Right s (accepted (countOf (w .tree)) (placed (startsFrom (w .tree) 0)) (placed (depthsFrom (w .tree) 1)))
