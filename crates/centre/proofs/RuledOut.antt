@@ -140,7 +140,8 @@ module _ (dir : List Participant) (ticket : Ticket) (owner number : ℕ) (wish :
   pub sets-without-a-step : told Done ≡ setTold dir ticket owner number wish room → room ≡ setAfter dir ticket owner number wish room → ⊥
   unfolding setIn
   sets-without-a-step e same =
-      let x : Step = setStep (accountNumber (found dir owner) number) (accountOf (seatOf room (ticket .seat)) (accountNumber (found dir owner) number) .settings) (settingsOf wish) in
+      let account : ℕ = accountNumber (found dir owner) number in
+      let x : Step = setStep account (accountOf (seatOf room (ticket .seat)) account .settings) (settingsOf wish) in
       step-counted room (ticket .seat) x (not-false (roomFits room) (set-passed e .0)) (ticket-seat ticket room (set-passed e .1 .1 .0))
       (same ∙ set-made e)
 
@@ -229,7 +230,8 @@ module _ (bytes : List ℕ) (slip : Slip) where
 
   pub reads-six-bytes : length bytes ≡ 6 → told (Says slip) ≡ slips.readTold bytes → ⊥
   reads-six-bytes h e =
-      let five : length bytes ≡ slipLong = eqb-true (length bytes) slipLong (and-left (eqb (length bytes) slipLong) (isSlip (slipOf bytes)) (slip-passed e .0)) in
+      let five : length bytes ≡ slipLong =
+      eqb-true (length bytes) slipLong (and-left (eqb (length bytes) slipLong) (isSlip (slipOf bytes)) (slip-passed e .0)) in
       omega arith
 
   pub reads-other-values : (slip ≡ slipOf bytes → ⊥) → told (Says slip) ≡ slips.readTold bytes → ⊥

@@ -253,7 +253,8 @@ module _ (dir : List Participant) (ticket : Ticket) (sender today : ℕ) (sheet 
           ∙ ap (λ (y : Step). y .status) (stepped-last x seatHere long fits (can .3))
 
     pub invented-step-number : (n : ℕ) → (n ≡ suc (headOf seatHere .steps) → ⊥)
-        → image (slipOf ticket n (stepOn (caseOf dir sender today) answerHere seatHere)) ++ drop slipLong slip ≡ submitSlip dir ticket sender today sheet slip room
+        → image (slipOf ticket n (stepOn (caseOf dir sender today) answerHere seatHere)) ++ drop slipLong slip
+        ≡ submitSlip dir ticket sender today sheet slip room
         → n ≤ steps → ⊥
     invented-step-number n h written low =
         good-message answerHere (tests .1 .1 .1 .1 .1 .1 .0) (tests .1 .1 .1 .1 .1 .1 .1 .0)

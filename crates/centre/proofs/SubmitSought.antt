@@ -22,6 +22,7 @@ use Rattle.directory.specs.Gathering.{recordsIn, directoryIn, fitGathered}
 use Rattle.directory.proofs.Finds.{fit-few}
 use Rattle.directory.proofs.Gathers.{directory-fit, directory-records}
 use Rattle.seat.specs.Calls.{placeFits}
+use Rattle.judge.specs.declared.case.Case.{Case}
 use Rattle.judge.specs.declared.case.Looked.{Looked}
 use Rattle.judge.specs.declared.records.Asked.{Asked}
 use Rattle.judge.specs.Case.{Arises, lookedUp, caseFrom, caseOf}
@@ -33,7 +34,8 @@ use Rattle.centre.specs.Submit.{verdictOn, stepOn, submitBy, submitLeft,
 use Rattle.centre.proofs.LentDirectories.{unfit-behind}
 
 -- what was looked up for a message arises, and both owners have a place that a seat has
-module _ {fit : Bool} {looked : Looked} {sender : ℕ} {received : Answer} (w : Sought fit looked sender received) (t : fit ≡ true) (m : Message) (f : received ≡ Good m) where
+module _ {fit : Bool} {looked : Looked} {sender : ℕ} {received : Answer} (w : Sought fit looked sender received) (t : fit ≡ true)
+    (m : Message) (f : received ≡ Good m) where
   pub sought-arises : (today : ℕ) → (leb sender codeMost && isDate today) ≡ true → Arises (caseFrom looked sender today m)
   unfolding caseOf
   sought-arises today n = record {
@@ -49,23 +51,30 @@ module _ {fit : Bool} {looked : Looked} {sender : ℕ} {received : Answer} (w : 
   sought-fits = looked-fit (w .dir) sender m looked (w .finding t m f) (fit-few (w .dir) (sym (w .fitness) ∙ t))
 
 module _ (ticket : Ticket) (sender today : ℕ) (slip room : List ℕ) (dir : List Participant) (looked : Looked) where
+  -- the case of a message, by what was looked up and by the directory
+  abbrev sought-case : Message → Case
+  sought-case = caseFrom looked sender today
+
+  abbrev directory-case : Message → Case
+  directory-case = caseOf dir sender today
+
   -- a fit directory
   told-same : (received : Answer) → ((m : Message) → received ≡ Good m → looked ≡ lookedUp dir sender m)
-      → submitBy true (caseFrom looked sender today) ticket sender today received slip room ≡ submitBy true (caseOf dir sender today) ticket sender today received slip room
+      → submitBy true sought-case ticket sender today received slip room ≡ submitBy true directory-case ticket sender today received slip room
   unfolding verdictOn caseOf
   told-same (Good m) known = ap (λ (l : Looked). submitBy true (caseFrom l sender today) ticket sender today (Good m) slip room) (known m refl)
   told-same (IllFormed place) known = refl
   told-same (BadField number) known = refl
 
   left-same : (received : Answer) → ((m : Message) → received ≡ Good m → looked ≡ lookedUp dir sender m)
-      → submitLeft true (caseFrom looked sender today) ticket sender today received slip room ≡ submitLeft true (caseOf dir sender today) ticket sender today received slip room
+      → submitLeft true sought-case ticket sender today received slip room ≡ submitLeft true directory-case ticket sender today received slip room
   unfolding verdictOn stepOn caseOf
   left-same (Good m) known = ap (λ (l : Looked). submitLeft true (caseFrom l sender today) ticket sender today (Good m) slip room) (known m refl)
   left-same (IllFormed place) known = refl
   left-same (BadField number) known = refl
 
   written-same : (received : Answer) → ((m : Message) → received ≡ Good m → looked ≡ lookedUp dir sender m)
-      → submitWritten true (caseFrom looked sender today) ticket sender today received slip room ≡ submitWritten true (caseOf dir sender today) ticket sender today received slip room
+      → submitWritten true sought-case ticket sender today received slip room ≡ submitWritten true directory-case ticket sender today received slip room
   unfolding verdictOn stepOn caseOf
   written-same (Good m) known = ap (λ (l : Looked). submitWritten true (caseFrom l sender today) ticket sender today (Good m) slip room) (known m refl)
   written-same (IllFormed place) known = refl
@@ -75,9 +84,9 @@ module _ (ticket : Ticket) (sender today : ℕ) (slip room : List ℕ) (dir : Li
   module _ (received : Answer) where
     abbrev Same : Bool → Type 0
     Same fit =
-        (submitBy fit (caseFrom looked sender today) ticket sender today received slip room ≡ submitBy fit (caseOf dir sender today) ticket sender today received slip room)
-        × ((submitLeft fit (caseFrom looked sender today) ticket sender today received slip room ≡ submitLeft fit (caseOf dir sender today) ticket sender today received slip room)
-        × (submitWritten fit (caseFrom looked sender today) ticket sender today received slip room ≡ submitWritten fit (caseOf dir sender today) ticket sender today received slip room))
+        (submitBy fit sought-case ticket sender today received slip room ≡ submitBy fit directory-case ticket sender today received slip room)
+        × ((submitLeft fit sought-case ticket sender today received slip room ≡ submitLeft fit directory-case ticket sender today received slip room)
+        × (submitWritten fit sought-case ticket sender today received slip room ≡ submitWritten fit directory-case ticket sender today received slip room))
 
     same : (fit : Bool) → (fit ≡ true → (m : Message) → received ≡ Good m → looked ≡ lookedUp dir sender m) → Same fit
     same true known = (told-same received (known refl), (left-same received (known refl), written-same received (known refl)))
@@ -113,7 +122,8 @@ module _ (ticket : Ticket) (sender today : ℕ) (slip room : List ℕ) (dir : Li
 
 -- with the directory as it was gathered
 module _ (g : Gathered) (sixteen : length (g .records) ≡ 16) (sheet : List ℕ) (sender : ℕ) (fit : Bool) (looked : Looked) (received : Answer) (asked : Asked)
-    (tested : fit ≡ fitGathered g) (read : received ≡ receivedOf sheet .answer) (asking : asked ≡ askedIn received) (looking : looked ≡ lookedFor (recordsIn g) sender asked) where
+    (tested : fit ≡ fitGathered g) (read : received ≡ receivedOf sheet .answer) (asking : asked ≡ askedIn received)
+    (looking : looked ≡ lookedFor (recordsIn g) sender asked) where
   gathered-fit : fit ≡ isFit (directoryIn g)
   gathered-fit = tested ∙ directory-fit g sixteen
 
@@ -128,7 +138,8 @@ module _ (g : Gathered) (sixteen : length (g .records) ≡ 16) (sheet : List ℕ
 
   pub gathered-submit : (ticket : Ticket) (today : ℕ) (slip room : List ℕ) (r : Told) (u w : List ℕ)
       → (r ≡ submitBy fit (caseFrom looked sender today) ticket sender today received slip room)
-      × ((u ≡ submitLeft fit (caseFrom looked sender today) ticket sender today received slip room) × (w ≡ submitWritten fit (caseFrom looked sender today) ticket sender today received slip room))
+      × ((u ≡ submitLeft fit (caseFrom looked sender today) ticket sender today received slip room)
+      × (w ≡ submitWritten fit (caseFrom looked sender today) ticket sender today received slip room))
       → (r ≡ submitTold (directoryIn g) ticket sender today sheet slip room)
       × ((u ≡ submitAfter (directoryIn g) ticket sender today sheet slip room) × (w ≡ submitSlip (directoryIn g) ticket sender today sheet slip room))
   gathered-submit ticket today slip room r u w e =

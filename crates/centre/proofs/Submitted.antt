@@ -164,6 +164,10 @@ module _ {fit : Bool} {ticket : Ticket} {sender today : ℕ} {slip room : List �
     abbrev here : List ℕ
     here = seatOf room (ticket .seat)
 
+    -- what submit answers
+    abbrev answer : Told
+    answer = submitBy fit cases ticket sender today received slip room
+
     judged-told : judgedTold (cases m) here ≡ submitBy fit cases ticket sender today received slip room
     unfolding judgedTold verdictOn
     judged-told =
@@ -175,13 +179,13 @@ module _ {fit : Bool} {ticket : Ticket} {sender today : ℕ} {slip room : List �
         behind-seat room (ticket .seat) (stepped (judgedStep (cases m) here) here) here (judgedTold (cases m) here)
         (seat-same room (ticket .seat) (room-long room (p .room-fit)) (ticket-seat ticket room (p .ticket-right)))
         ∙ ap (λ (t : Told). behind t (withSeat room (ticket .seat) (stepped (judgedStep (cases m) here) here)) room) judged-told
-        ∙ ap (λ (a : Received). behind (submitBy fit cases ticket sender today received slip room) (withSeat room (ticket .seat) (stepped (stepOn cases a here) here)) room) (sym f)
+        ∙ ap (λ (a : Received). behind answer (withSeat room (ticket .seat) (stepped (stepOn cases a here) here)) room) (sym f)
 
     judged-slip : judgedSlip ticket (cases m) here slip ≡ submitWritten fit cases ticket sender today received slip room
     unfolding judgedSlip stepOn
     judged-slip =
         ap (λ (t : Told). behind t (image (slipOf ticket (suc (headOf here .steps)) (judgedStep (cases m) here)) ++ drop slipLong slip) slip) judged-told
-        ∙ ap (λ (a : Received). behind (submitBy fit cases ticket sender today received slip room) (image (slipOf ticket (suc (headOf here .steps)) (stepOn cases a here)) ++ drop slipLong slip) slip) (sym f)
+        ∙ ap (λ (a : Received). behind answer (image (slipOf ticket (suc (headOf here .steps)) (stepOn cases a here)) ++ drop slipLong slip) slip) (sym f)
 
     seat-fits : seatFits here ≡ true
     seat-fits = room-seat room (p .room-fit) (ticket .seat) (ticket-seat ticket room (p .ticket-right))

@@ -5,60 +5,86 @@ use borrow.Author.Needs.{needs}
 use Rattle.centre.proofs.submit.judge_in.Statement.{statement}
 use Rattle.centre.proofs.submit.judge_in.Tie as tie
 
+-- back from where the head of the seat was read: the calls that made the step, the test that the check is neither 1 nor 2, and the start
+abbrev made : tie.After-head → tie.After-step-of
+made c = c .before .before
+
+abbrev ended : tie.After-head → tie.After-end-of
+ended c = made c .before
+
+abbrev moved : tie.After-head → tie.After-movement-in
+moved c = ended c .before .before
+
+abbrev passed : tie.After-head → tie.Else1
+passed c = moved c .before .before
+
+abbrev start : tie.After-head → tie.Start
+start c = passed c .before .before .before .before .before
+
 first-failing-requires : tie.Need-first-failing-requires
-first-failing-requires c κs = seat-asks (c .before .before .before .args .ticket) (c .before .before .before .args .s .now) (c .before .before .before .pre .0) (c .before .before .before .pre .1)
+first-failing-requires c κs =
+    let begun : tie.Start = c .before .before .before in
+    seat-asks (begun .args .ticket) (begun .args .s .now) (begun .pre .0) (begun .pre .1)
 
 same-length : tie.Need-same-length
 same-length c = search needs
 
 returns : tie.Need-returns
 returns c =
-    not-taken (c .before .before .before .before .before .args .ticket) (c .before .before .before .before .before .args .c) (c .before .before .before .before .before .args .s .now) (c .before .before .before .before .before .args .slip .now)
-    (c .before .first-failing .result) (c .before .first-failing .ensures) (c .if1 .taken)
+    let given = c .before .before .before .before .before .args in
+    let check = c .before .first-failing in
+    not-taken (given .ticket) (given .c) (given .s .now) (given .slip .now) (check .result) (check .ensures) (c .if1 .taken)
 
 movement-in-requires : tie.Need-movement-in-requires
 movement-in-requires c κs = tt
 
 end-of-requires : tie.Need-end-of-requires
-end-of-requires c κs = seat-asks (c .before .before .before .before .before .before .before .before .args .ticket) (c .before .before .before .before .before .before .before .before .args .s .now) (c .before .before .before .before .before .before .before .before .pre .0) (c .before .before .before .before .before .before .before .before .pre .1)
+end-of-requires c κs =
+    let begun : tie.Start = c .before .before .before .before .before .before .before .before in
+    seat-asks (begun .args .ticket) (begun .args .s .now) (begun .pre .0) (begun .pre .1)
 
 step-of-requires : tie.Need-step-of-requires
 step-of-requires c κs = tt
 
 head-requires : tie.Need-head-requires
-head-requires c κs = seat-asks (c .before .before .before .before .before .before .before .before .before .before .before .args .ticket) (c .before .before .before .before .before .before .before .before .before .before .before .args .s .now) (c .before .before .before .before .before .before .before .before .before .before .before .pre .0) (c .before .before .before .before .before .before .before .before .before .before .before .pre .1) .0
+head-requires c κs =
+    let begun : tie.Start = c .before .before .before .before .before .before .before .before .before .before .before in
+    seat-asks (begun .args .ticket) (begun .args .s .now) (begun .pre .0) (begun .pre .1) .0
 
 append-requires : tie.Need-append-requires
 append-requires c κs =
-    append-asks (c .before .before .before .before .before .before .before .before .before .before .before .before .before .args .ticket) (c .before .before .before .before .before .before .before .before .before .before .before .before .before .args .c) (c .before .before .before .before .before .before .before .before .before .before .before .before .before .args .s .now) (c .before .before .before .before .before .before .before .before .before .before .before .before .before .args .slip .now)
-    (c .before .before .before .before .before .before .before .before .before .first-failing .result) (c .before .before .before .before .before .before .before .before .before .first-failing .ensures) (c .before .before .before .before .before .before .before .before .if1 .left)
-    (c .before .before .before .before .before .before .movement-in .result) (c .before .before .before .before .before .before .movement-in .ensures)
-    (c .before .before .before .before .end-of .result) (c .before .before .before .before .end-of .ensures)
-    (c .before .before .before .step-of .result) (c .before .before .before .step-of .ensures)
-    (c .before .head .result) (c .before .head .ensures)
-    (c .before .before .before .before .before .before .before .before .before .before .before .before .before .pre .0) (c .before .before .before .before .before .before .before .before .before .before .before .before .before .pre .1) (c .before .before .before .before .before .before .before .before .before .before .before .before .before .pre .3) (c .before .before .before .before .before .before .before .before .before .before .before .before .before .pre .5)
+    let here : tie.After-head = c .before in
+    let given = start here .args in
+    let check = passed here .before .first-failing in
+    let asked = start here .pre in
+    append-asks (given .ticket) (given .c) (given .s .now) (given .slip .now) (check .result) (check .ensures) (passed here .if1 .left)
+    (moved here .movement-in .result) (moved here .movement-in .ensures) (ended here .end-of .result) (ended here .end-of .ensures)
+    (made here .step-of .result) (made here .step-of .ensures) (here .head .result) (here .head .ensures)
+    (asked .0) (asked .1) (asked .3) (asked .5)
 
 add-put-slip : tie.Need-add-put-slip
 add-put-slip c =
+    let here : tie.After-head = c .before .before .before .before .before in
+    let given = start here .args in
+    let check = passed here .before .first-failing in
+    let asked = start here .pre in
     let low =
-    count-low (c .before .before .before .before .before .before .before .before .before .before .before .before .before .before .before .before .before .args .ticket) (c .before .before .before .before .before .before .before .before .before .before .before .before .before .before .before .before .before .args .c) (c .before .before .before .before .before .before .before .before .before .before .before .before .before .before .before .before .before .args .s .now) (c .before .before .before .before .before .before .before .before .before .before .before .before .before .before .before .before .before .args .slip .now)
-    (c .before .before .before .before .before .before .before .before .before .before .before .before .before .first-failing .result) (c .before .before .before .before .before .before .before .before .before .before .before .before .before .first-failing .ensures) (c .before .before .before .before .before .before .before .before .before .before .before .before .if1 .left)
-    (c .before .before .before .before .before .before .before .before .before .before .movement-in .result) (c .before .before .before .before .before .before .before .before .before .before .movement-in .ensures)
-    (c .before .before .before .before .before .before .before .before .end-of .result) (c .before .before .before .before .before .before .before .before .end-of .ensures)
-    (c .before .before .before .before .before .before .before .step-of .result) (c .before .before .before .before .before .before .before .step-of .ensures)
-    (c .before .before .before .before .before .head .result) (c .before .before .before .before .before .head .ensures)
-    (c .before .before .before .before .before .before .before .before .before .before .before .before .before .before .before .before .before .pre .0) (c .before .before .before .before .before .before .before .before .before .before .before .before .before .before .before .before .before .pre .1) (c .before .before .before .before .before .before .before .before .before .before .before .before .before .before .before .before .before .pre .3) (c .before .before .before .before .before .before .before .before .before .before .before .before .before .before .before .before .before .pre .5) in
+    count-low (given .ticket) (given .c) (given .s .now) (given .slip .now) (check .result) (check .ensures) (passed here .if1 .left)
+    (moved here .movement-in .result) (moved here .movement-in .ensures) (ended here .end-of .result) (ended here .end-of .ensures)
+    (made here .step-of .result) (made here .step-of .ensures) (here .head .result) (here .head .ensures)
+    (asked .0) (asked .1) (asked .3) (asked .5) in
     omega (arith, low)
 
 put-slip-requires : tie.Need-put-slip-requires
 put-slip-requires c κs =
-    slip-asks (c .before .before .before .before .before .before .before .before .before .before .before .before .before .before .before .before .before .before .args .ticket) (c .before .before .before .before .before .before .before .before .before .before .before .before .before .before .before .before .before .before .args .c) (c .before .before .before .before .before .before .before .before .before .before .before .before .before .before .before .before .before .before .args .s .now) (c .before .before .before .before .before .before .before .before .before .before .before .before .before .before .before .before .before .before .args .slip .now)
-    (c .before .before .before .before .before .before .before .before .before .before .before .before .before .before .first-failing .result) (c .before .before .before .before .before .before .before .before .before .before .before .before .before .before .first-failing .ensures) (c .before .before .before .before .before .before .before .before .before .before .before .before .before .if1 .left)
-    (c .before .before .before .before .before .before .before .before .before .before .before .movement-in .result) (c .before .before .before .before .before .before .before .before .before .before .before .movement-in .ensures)
-    (c .before .before .before .before .before .before .before .before .before .end-of .result) (c .before .before .before .before .before .before .before .before .before .end-of .ensures)
-    (c .before .before .before .before .before .before .before .before .step-of .result) (c .before .before .before .before .before .before .before .before .step-of .ensures)
-    (c .before .before .before .before .before .before .head .result) (c .before .before .before .before .before .before .head .ensures)
-    (c .before .before .before .before .before .before .before .before .before .before .before .before .before .before .before .before .before .before .pre .0) (c .before .before .before .before .before .before .before .before .before .before .before .before .before .before .before .before .before .before .pre .1) (c .before .before .before .before .before .before .before .before .before .before .before .before .before .before .before .before .before .before .pre .3) (c .before .before .before .before .before .before .before .before .before .before .before .before .before .before .before .before .before .before .pre .5) (c .before .before .before .before .before .before .before .before .before .before .before .before .before .before .before .before .before .before .pre .2) (c .before .before .before .before .before .before .before .before .before .before .before .before .before .before .before .before .before .before .pre .4)
+    let here : tie.After-head = c .before .before .before .before .before .before in
+    let given = start here .args in
+    let check = passed here .before .first-failing in
+    let asked = start here .pre in
+    slip-asks (given .ticket) (given .c) (given .s .now) (given .slip .now) (check .result) (check .ensures) (passed here .if1 .left)
+    (moved here .movement-in .result) (moved here .movement-in .ensures) (ended here .end-of .result) (ended here .end-of .ensures)
+    (made here .step-of .result) (made here .step-of .ensures) (here .head .result) (here .head .ensures)
+    (asked .0) (asked .1) (asked .3) (asked .5) (asked .2) (asked .4)
 
 same-length-2 : tie.Need-same-length-2
 same-length-2 c = search needs
@@ -68,13 +94,15 @@ same-length-3 c = search needs
 
 returns-2 : tie.Need-returns-2
 returns-2 c =
-    taken (c .before .before .before .before .before .before .before .before .before .before .before .before .before .before .before .before .before .before .before .before .before .args .ticket) (c .before .before .before .before .before .before .before .before .before .before .before .before .before .before .before .before .before .before .before .before .before .args .c) (c .before .before .before .before .before .before .before .before .before .before .before .before .before .before .before .before .before .before .before .before .before .args .s .now) (c .before .before .before .before .before .before .before .before .before .before .before .before .before .before .before .before .before .before .before .before .before .args .slip .now)
-    (c .before .before .before .before .before .before .before .before .before .before .before .before .before .before .before .before .before .first-failing .result) (c .before .before .before .before .before .before .before .before .before .before .before .before .before .before .before .before .before .first-failing .ensures) (c .before .before .before .before .before .before .before .before .before .before .before .before .before .before .before .before .if1 .left)
-    (c .before .before .before .before .before .before .before .before .before .before .before .before .before .before .movement-in .result) (c .before .before .before .before .before .before .before .before .before .before .before .before .before .before .movement-in .ensures)
-    (c .before .before .before .before .before .before .before .before .before .before .before .before .end-of .result) (c .before .before .before .before .before .before .before .before .before .before .before .before .end-of .ensures)
-    (c .before .before .before .before .before .before .before .before .before .before .before .step-of .result) (c .before .before .before .before .before .before .before .before .before .before .before .step-of .ensures)
-    (c .before .before .before .before .before .before .before .before .before .head .result) (c .before .before .before .before .before .before .before .before .before .head .ensures)
-    (c .before .before .before .before .before .before .before .append .last .0) (c .before .before .put-slip .last .1 .1 .1 .0) (c .before .before .before .before .before .before .before .append .ensures) (c .before .before .put-slip .ensures)
+    let here : tie.After-head = c .before .before .before .before .before .before .before .before .before in
+    let given = start here .args in
+    let check = passed here .before .first-failing in
+    let stepped = c .before .before .before .before .before .before .before .append in
+    let wrote = c .before .before .put-slip in
+    taken (given .ticket) (given .c) (given .s .now) (given .slip .now) (check .result) (check .ensures) (passed here .if1 .left)
+    (moved here .movement-in .result) (moved here .movement-in .ensures) (ended here .end-of .result) (ended here .end-of .ensures)
+    (made here .step-of .result) (made here .step-of .ensures) (here .head .result) (here .head .ensures)
+    (stepped .last .0) (wrote .last .1 .1 .1 .0) (stepped .ensures) (wrote .ensures)
 
 pub judge-in-spec : {M : Type 1} → statement M
 judge-in-spec =
