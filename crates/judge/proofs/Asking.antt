@@ -90,8 +90,9 @@ is-debtor a is = SL.owed Asked′.the-type asked-laws.the-laws a (asked a ∷ []
 pub is-creditor : (a : Asked) → Is AskedRow a (asked a ∷ []) → Is ValueRow (a .creditor) (value (a .creditor) ∷ [])
 is-creditor a is = SL.owed Asked′.the-type asked-laws.the-laws a (asked a ∷ []) is .1 .1 .1 .1 .0
 
-pub is-looked : (l : Looked) → Is F (l .source) (machine (l .source) ∷ []) → Is F (l .instructed) (machine (l .instructed) ∷ []) → Is F (l .debtor) (machine (l .debtor) ∷ [])
-    → Is F (l .creditor) (machine (l .creditor) ∷ []) → Is F (l .debit) (machine (l .debit) ∷ []) → Is F (l .credit) (machine (l .credit) ∷ []) → Is LookedRow l (looked l ∷ [])
+pub is-looked : (l : Looked) → Is F (l .source) (machine (l .source) ∷ []) → Is F (l .instructed) (machine (l .instructed) ∷ [])
+    → Is F (l .debtor) (machine (l .debtor) ∷ []) → Is F (l .creditor) (machine (l .creditor) ∷ [])
+    → Is F (l .debit) (machine (l .debit) ∷ []) → Is F (l .credit) (machine (l .credit) ∷ []) → Is LookedRow l (looked l ∷ [])
 is-looked l s i d c f t = SL.owes Looked′.the-type looked-laws.the-laws l (s, (i, (d, (c, (f, (t, tt))))))
 
 -- ---- the two callees
@@ -129,15 +130,16 @@ module _ {M : Type 1} (𝓤 : URA M) (H : Heap 𝓤) (A : Atoms 𝓤) (mem : Mem
           owned ! AskedRow (Is AskedRow) (made-asked 𝓤 H A W) a (asked a ∷ []) is-a $ fjoin ! $ nothing ! $ join ! $ done !
 
 -- ---- each is called: the code is at hand
-module _ {M : Type 1} {𝓤 : URA M} {H : Heap 𝓤} {A : Atoms 𝓤} {K : Type 0} {W : Given 𝓤 H A} {Γ : List (Item 𝓤)} {E : Env 𝓤 H} {C : Calls 𝓤 H} {Λ : Loops 𝓤 H} {Q : Post 𝓤 H}
-    {rest : Body} {d : Place} {xs : List Operand} where
+module _ {M : Type 1} {𝓤 : URA M} {H : Heap 𝓤} {A : Atoms 𝓤} {K : Type 0} {W : Given 𝓤 H A} {Γ : List (Item 𝓤)} {E : Env 𝓤 H}
+    {C : Calls 𝓤 H} {Λ : Loops 𝓤 H} {Q : Post 𝓤 H} {rest : Body} {d : Place} {xs : List Operand} where
   pub debits : K → (mem : Memory → SProp 𝓤) (run : Routine → Fun 𝓤) → FmC 𝓤 H (W .laws) C → Triple 𝓤 (C #judge·debit-code) (DebitCode 𝓤 H A mem run)
       → (a : Asked) (f : Found) → Is AskedRow a (asked a ∷ []) → Is F f (machine f ∷ [])
       → Opds K W (raw (DebitCode 𝓤 H A mem run .pre (to-debit 𝓤 H A mem run a f)) ∷ Γ) E xs (DebitCode 𝓤 H A mem run .args (to-debit 𝓤 H A mem run a f))
       → (Is ValueRow (debitCode a f) (value (debitCode a f) ∷ []) → Seq K W Γ (lands C Λ E d (value (debitCode a f)) rest Q))
       → Seq K W Γ (runs C Λ E (seq (call #judge·debit-code xs d) rest) Q)
   debits t mem run fm known a f is-a is-f =
-      calls-value t fm (DebitCode 𝓤 H A mem run) known (to-debit 𝓤 H A mem run a f) (goes-debit 𝓤 H A mem run a f W is-a is-f) ValueRow value told-value (debitCode a f)
+      calls-value t fm (DebitCode 𝓤 H A mem run) known (to-debit 𝓤 H A mem run a f) (goes-debit 𝓤 H A mem run a f W is-a is-f)
+      ValueRow value told-value (debitCode a f)
       (λ c. ensured 𝓤 H A debit-code.ended (debit-code.clauses 𝓤 H A mem run) tt (a, (f, tt)) tt c) (λ v. id⊢ 𝓤 _) (debit-of 𝓤 H A mem run a f)
 
   pub credits : K → (mem : Memory → SProp 𝓤) (run : Routine → Fun 𝓤) → FmC 𝓤 H (W .laws) C → Triple 𝓤 (C #judge·credit-code) (CreditCode 𝓤 H A mem run)
@@ -146,5 +148,6 @@ module _ {M : Type 1} {𝓤 : URA M} {H : Heap 𝓤} {A : Atoms 𝓤} {K : Type 
       → (Is ValueRow (creditCode a f) (value (creditCode a f) ∷ []) → Seq K W Γ (lands C Λ E d (value (creditCode a f)) rest Q))
       → Seq K W Γ (runs C Λ E (seq (call #judge·credit-code xs d) rest) Q)
   credits t mem run fm known a f is-a is-f =
-      calls-value t fm (CreditCode 𝓤 H A mem run) known (to-credit 𝓤 H A mem run a f) (goes-credit 𝓤 H A mem run a f W is-a is-f) ValueRow value told-value (creditCode a f)
+      calls-value t fm (CreditCode 𝓤 H A mem run) known (to-credit 𝓤 H A mem run a f) (goes-credit 𝓤 H A mem run a f W is-a is-f)
+      ValueRow value told-value (creditCode a f)
       (λ c. ensured 𝓤 H A credit-code.ended (credit-code.clauses 𝓤 H A mem run) tt (a, (f, tt)) tt c) (λ v. id⊢ 𝓤 _) (credit-of 𝓤 H A mem run a f)

@@ -33,7 +33,8 @@ asked-after-requires c κs = c .before .before .before .before .pre
 
 told-of-requires : tie.Need-told-of-requires
 told-of-requires c κs =
-    (c .before .before .before .before .before .pre .0, ap placeFits (c .asked-after .ensures) ∙ asked-within (c .before .before .before .before .before .args .c) (now (c .before .before .before .before .before .args .s)) (c .before .before .before .before .before .pre .1))
+    let start : tie.Start = c .before .before .before .before .before in
+    (start .pre .0, ap placeFits (c .asked-after .ensures) ∙ asked-within (start .args .c) (now (start .args .s)) (start .pre .1))
 
 answered-requires : tie.Need-answered-requires
 answered-requires c κs = tt
@@ -53,8 +54,10 @@ asks kind check told e = rw e
 
 returns-3 : tie.Need-returns-3
 returns-3 c =
+    let start : tie.Start = c .before .before .before .before .before .before .before in
+    let told = toldOf (askedAfter (start .args .c) (now (start .args .s))) (now (start .args .s)) in
     (rw (c .before .told-of .ensures, c .before .before .asked-after .ensures) at (c .answered .ensures))
-    ∙ sym (asks (c .before .before .before .before .before .before .before .args .c .message .kind) (c .before .before .before .before .before .before .before .args .check) (toldOf (askedAfter (c .before .before .before .before .before .before .before .args .c) (now (c .before .before .before .before .before .before .before .args .s))) (now (c .before .before .before .before .before .before .before .args .s))) (c .before .before .before .enum-told3 .given .1))
+    ∙ sym (asks (start .args .c .message .kind) (start .args .check) told (c .before .before .before .enum-told3 .given .1))
 
 pub end-of-spec : {M : Type 1} → statement M
 end-of-spec =

@@ -12,7 +12,9 @@ enum-known-payment : tie.Need-enum-known-payment
 enum-known-payment c = search needs
 
 result-now-requires : tie.Need-result-now-requires
-result-now-requires c κs = (c .before .before .before .before .pre .0, ltb-true _ steps (sym (ap placeFits (c .before .payment .given .1)) ∙ c .before .before .before .before .pre .1))
+result-now-requires c κs =
+    let start : tie.Start = c .before .before .before .before in
+    (start .pre .0, ltb-true _ steps (sym (ap placeFits (c .before .payment .given .1)) ∙ start .pre .1))
 
 enum-told : tie.Need-enum-told
 enum-told c = search needs
