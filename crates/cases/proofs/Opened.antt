@@ -3,9 +3,11 @@
 -- Assumes nothing.
 use Rattle.shape.specs.Bytes.{isText, isHex, isCapital, isVariant, isLetter, isDigit, isSmall, isDigitOrCapital}
 use Rattle.shape.specs.Dates.{timeOf, isLeap, timeNumber, daysIn, isDate, dayBefore, isTime}
-use Rattle.shape.specs.Fields.{kopecks, amountOf, isIdentifier, namesPacs008, isIban, systemOf, isAmount, currencyOf, accountOf as shapeAccountOf, threeBytes, messageCodeOf, codeOf}
+use Rattle.shape.specs.Fields.{kopecks, amountOf, isIdentifier, namesPacs008, isIban, systemOf, isAmount}
+use Rattle.shape.specs.Fields.{currencyOf, accountOf as shapeAccountOf, threeBytes, messageCodeOf, codeOf}
 use Rattle.shape.specs.Numbers.{decimal, hexValue}
-use Rattle.shape.specs.Patterns.{timePattern, codePattern, messagePattern, sepPattern, accountPattern, currencyPattern, pacs008Pattern, aspPattern, ibanPattern, within, fits, uetrPattern}
+use Rattle.shape.specs.Patterns.{timePattern, codePattern, messagePattern, sepPattern, accountPattern}
+use Rattle.shape.specs.Patterns.{currencyPattern, pacs008Pattern, aspPattern, ibanPattern, within, fits, uetrPattern}
 use Rattle.shape.specs.Stored.{identifierOf, sameUetr, fourFrom, identifierText, allBytes, groups, sevenFrom, isUetr, sameIdentifier, uetrOf}
 use Rattle.remainder.specs.Remainder.{isPlain, whole, remainderOf, written}
 use Rattle.table.specs.Checks.{orderOf}
@@ -31,14 +33,22 @@ use Rattle.seat.specs.Fit.{seatFits, closedFits, closedSeat, openFits, openSeat
 use Rattle.journal.specs.Traces.{earliest, leaves, firstIn, isThere, isKnown}
 use Rattle.journal.specs.Results.{failsBy, endsAs, resultFits, resultNow}
 use Rattle.journal.specs.Limits.{availableBelow, turnoverAbove, blockedOut, blockedInto, turnoverShut}
-use Rattle.journal.specs.Steps.{stepFits, noSet, movementFits, noMovement, moves, sameSettings, isStored, settingsFit, between, referenceFits, noMessage, messageFits, setFits, isStoredUetr}
+use Rattle.journal.specs.Steps.{stepFits, noSet, movementFits, noMovement, moves, sameSettings, isStored}
+use Rattle.journal.specs.Steps.{settingsFit, between, referenceFits, noMessage, messageFits, setFits, isStoredUetr}
 use Rattle.journal.specs.Working.{uneffect, stepped, worked, moved, possible, changed, covered, journalOf, effect, backed, unmoved, stepsFrom}
 use Rattle.judge.specs.Case.{movementOf, accountOn, creditOwner, debitOwner, caseOf}
-use Rattle.judge.specs.Rows.{movementIn, isAsp, identifierRepeated, creditorNotInstant, creditorNotServed, debtorElsewhere, creditorElsewhere, instructingNotServing, debtorNotHryvnia, identifierBad, debtorAnothers, shows, creditBlocked, ibanWrong, accountAt, creditorNotHryvnia, debtorUnlisted, moneyShort, createdElsewhen, senderNotInstant, previousNotServing, originalDiffers, instructedNoBank, creditorNoProvider, uetrRepeated, askedAfter, amountForeign, originalUnknown, debitBlocked, senderNoOwner, currenciesDiffer, isSep, notFromSender, limitZero, senderIndirect, creditorAnothers, originalBad, senderUnlisted, digitsWrong, limitPassed, isOne, createdOn, differs}
+use Rattle.judge.specs.Rows.{movementIn, isAsp, identifierRepeated, creditorNotInstant, creditorNotServed, debtorElsewhere, creditorElsewhere}
+use Rattle.judge.specs.Rows.{instructingNotServing, debtorNotHryvnia, identifierBad, debtorAnothers, shows, creditBlocked, ibanWrong}
+use Rattle.judge.specs.Rows.{accountAt, creditorNotHryvnia, debtorUnlisted, moneyShort, createdElsewhen, senderNotInstant, previousNotServing}
+use Rattle.judge.specs.Rows.{originalDiffers, instructedNoBank, creditorNoProvider, uetrRepeated, askedAfter, amountForeign, originalUnknown}
+use Rattle.judge.specs.Rows.{debitBlocked, senderNoOwner, currenciesDiffer, isSep, notFromSender, limitZero, senderIndirect, creditorAnothers}
+use Rattle.judge.specs.Rows.{originalBad, senderUnlisted, digitsWrong, limitPassed, isOne, createdOn, differs}
 use Rattle.judge.specs.Values.{orZero, agree}
-use Rattle.judge.specs.Verdict.{toldOf, fails, stepMade, judgedStep, verdict, firstFailing, rowsOf as judgeRowsOf, carried, outcome, answered, endOf, transferred}
+use Rattle.judge.specs.Verdict.{toldOf, fails, stepMade, judgedStep, verdict, firstFailing}
+use Rattle.judge.specs.Verdict.{rowsOf as judgeRowsOf, carried, outcome, answered, endOf, transferred}
 use Rattle.centre.specs.Answers.{slipValues, isDone, behind}
-use Rattle.centre.specs.Calls.{backTold, closeTold, setIn, ticketBad, openAfter, readTold as centreReadTold, openTold, setAfter, backAfter, noSeat, setTold, closeAfter}
+use Rattle.centre.specs.Calls.{backTold, closeTold, setIn, ticketBad, openAfter, readTold as centreReadTold}
+use Rattle.centre.specs.Calls.{openTold, setAfter, backAfter, noSeat, setTold, closeAfter}
 use Rattle.centre.specs.Slips.{writeTold, readTold as centreSlipsReadTold}
 use Rattle.centre.specs.Submit.{stepOn, verdictOn, submitSlip, submitTold, notTaken, slipOf as centreSlipOf, submitAfter}
 use Rattle.demands.specs.Calls.{actSlip, callRoom, callTold, actRoom, actTold, callSlip}
@@ -46,7 +56,10 @@ use Rattle.demands.specs.Seats.{answerOf}
 use Rattle.strike.specs.Strike.{events}
 
 unfoldable pub shape-opened : Unit {0}
-unfolding isText isHex isCapital isVariant isLetter isDigit isSmall isDigitOrCapital timeOf isLeap timeNumber daysIn isDate dayBefore isTime kopecks amountOf isIdentifier namesPacs008 isIban systemOf isAmount currencyOf shapeAccountOf threeBytes messageCodeOf codeOf decimal hexValue timePattern codePattern messagePattern sepPattern accountPattern currencyPattern pacs008Pattern aspPattern ibanPattern within fits uetrPattern identifierOf sameUetr fourFrom identifierText allBytes groups sevenFrom isUetr sameIdentifier uetrOf
+unfolding isText isHex isCapital isVariant isLetter isDigit isSmall isDigitOrCapital timeOf isLeap timeNumber daysIn isDate dayBefore
+    isTime kopecks amountOf isIdentifier namesPacs008 isIban systemOf isAmount currencyOf shapeAccountOf threeBytes messageCodeOf codeOf
+    decimal hexValue timePattern codePattern messagePattern sepPattern accountPattern currencyPattern pacs008Pattern aspPattern ibanPattern
+    within fits uetrPattern identifierOf sameUetr fourFrom identifierText allBytes groups sevenFrom isUetr sameIdentifier uetrOf
 shape-opened = tt
 
 unfoldable pub remainder-opened : Unit {0}
@@ -70,7 +83,8 @@ unfolding samePath charactersOf standing atDepth sameName insideAt rowsFrom hasC
 outline-opened = tt
 
 unfoldable pub message-opened : Unit {0}
-unfolding camt050Fields pacs008Fields pacs028Fields messageFieldsOf numbersOf bodyOf ccyFits textFits goesWith firstBad hasShape isGood heldIn ccyIn agentOf messageFrom startIn lengthIn nameOf textIn messageOf receivedFrom kindNamed receivedIn receivedAs kindOf onlyKind receivedOf heldOf
+unfolding camt050Fields pacs008Fields pacs028Fields messageFieldsOf numbersOf bodyOf ccyFits textFits goesWith firstBad hasShape isGood heldIn ccyIn
+    agentOf messageFrom startIn lengthIn nameOf textIn messageOf receivedFrom kindNamed receivedIn receivedAs kindOf onlyKind receivedOf heldOf
 message-opened = tt
 
 unfoldable pub directory-opened : Unit {0}
@@ -82,15 +96,24 @@ unfolding put part accountRow headRow stepRow stepIn accountIn headIn headOf wit
 layout-opened = tt
 
 unfoldable pub seat-opened : Unit {0}
-unfolding noTicket accountFound sumsGood pairGood limitNumber settingsOf accountNamed seatFits closedFits closedSeat openFits openSeat sumsOf openAccounts roomFits sumsFrom same earliest leaves firstIn isThere isKnown failsBy endsAs resultFits resultNow availableBelow turnoverAbove blockedOut blockedInto turnoverShut stepFits noSet movementFits noMovement moves sameSettings isStored settingsFit between referenceFits noMessage messageFits setFits isStoredUetr uneffect stepped worked moved possible changed covered journalOf effect backed unmoved stepsFrom
+unfolding noTicket accountFound sumsGood pairGood limitNumber settingsOf accountNamed seatFits closedFits closedSeat openFits openSeat sumsOf
+    openAccounts roomFits sumsFrom same earliest leaves firstIn isThere isKnown failsBy endsAs resultFits resultNow availableBelow turnoverAbove
+    blockedOut blockedInto turnoverShut stepFits noSet movementFits noMovement moves sameSettings isStored settingsFit between referenceFits
+    noMessage messageFits setFits isStoredUetr uneffect stepped worked moved possible changed covered journalOf effect backed unmoved stepsFrom
 seat-opened = tt
 
 unfoldable pub judge-opened : Unit {0}
-unfolding movementIn movementOf accountOn creditOwner debitOwner caseOf isAsp identifierRepeated creditorNotInstant creditorNotServed debtorElsewhere creditorElsewhere instructingNotServing debtorNotHryvnia identifierBad debtorAnothers shows creditBlocked ibanWrong accountAt creditorNotHryvnia debtorUnlisted moneyShort createdElsewhen senderNotInstant previousNotServing originalDiffers instructedNoBank creditorNoProvider uetrRepeated askedAfter amountForeign originalUnknown debitBlocked senderNoOwner currenciesDiffer isSep notFromSender limitZero senderIndirect creditorAnothers originalBad senderUnlisted digitsWrong limitPassed isOne createdOn differs orZero agree toldOf fails stepMade judgedStep verdict firstFailing judgeRowsOf carried outcome answered endOf transferred
+unfolding movementIn movementOf accountOn creditOwner debitOwner caseOf isAsp identifierRepeated creditorNotInstant creditorNotServed
+    debtorElsewhere creditorElsewhere instructingNotServing debtorNotHryvnia identifierBad debtorAnothers shows creditBlocked ibanWrong
+    accountAt creditorNotHryvnia debtorUnlisted moneyShort createdElsewhen senderNotInstant previousNotServing originalDiffers
+    instructedNoBank creditorNoProvider uetrRepeated askedAfter amountForeign originalUnknown debitBlocked senderNoOwner currenciesDiffer
+    isSep notFromSender limitZero senderIndirect creditorAnothers originalBad senderUnlisted digitsWrong limitPassed isOne createdOn
+    differs orZero agree toldOf fails stepMade judgedStep verdict firstFailing judgeRowsOf carried outcome answered endOf transferred
 judge-opened = tt
 
 unfoldable pub centre-opened : Unit {0}
-unfolding slipValues isDone behind backTold closeTold setIn ticketBad openAfter centreReadTold openTold setAfter backAfter noSeat setTold closeAfter writeTold centreSlipsReadTold stepOn verdictOn submitSlip submitTold notTaken centreSlipOf submitAfter
+unfolding slipValues isDone behind backTold closeTold setIn ticketBad openAfter centreReadTold openTold setAfter backAfter noSeat
+    setTold closeAfter writeTold centreSlipsReadTold stepOn verdictOn submitSlip submitTold notTaken centreSlipOf submitAfter
 centre-opened = tt
 
 unfoldable pub demands-opened : Unit {0}
@@ -102,5 +125,6 @@ unfolding events
 strike-opened = tt
 
 unfoldable pub opened : Unit {0}
-unfolding shape-opened remainder-opened table-opened slip-opened sheet-opened outline-opened message-opened directory-opened layout-opened seat-opened judge-opened centre-opened demands-opened strike-opened
+unfolding shape-opened remainder-opened table-opened slip-opened sheet-opened outline-opened message-opened
+    directory-opened layout-opened seat-opened judge-opened centre-opened demands-opened strike-opened
 opened = tt
