@@ -9,40 +9,55 @@ use Rattle.journal.proofs.working.do_effect.Statement.{statement}
 use Rattle.journal.proofs.working.do_effect.Tie as tie
 
 account-requires : tie.Need-account-requires
-account-requires c κs = (c .before .before .before .before .pre .0 .long, set-account (c .before .before .before .before .args .x) (c .before .before .before .before .pre .1) (eq-eqb (c .before .before .before .before .args .x .kind) setKind (c .before .if1 .taken)))
+account-requires c κs =
+    let start : tie.Start = c .before .before .before .before in
+    (start .pre .0 .long, set-account (start .args .x) (start .pre .1) (eq-eqb (start .args .x .kind) setKind (c .before .if1 .taken)))
 
 with-settings-requires : tie.Need-with-settings-requires
 with-settings-requires c κs = search needs
 
 put-account-requires : tie.Need-put-account-requires
-put-account-requires c κs = (c .before .before .before .before .before .before .before .pre .0 .long, set-account (c .before .before .before .before .before .before .before .args .x) (c .before .before .before .before .before .before .before .pre .1) (eq-eqb (c .before .before .before .before .before .before .before .args .x .kind) setKind (c .before .before .before .before .if1 .taken)))
+put-account-requires c κs =
+    let start : tie.Start = c .before .before .before .before .before .before .before in
+    (start .pre .0 .long, set-account (start .args .x) (start .pre .1) (eq-eqb (start .args .x .kind) setKind (c .before .before .before .before .if1 .taken)))
 
 same-length : tie.Need-same-length
 same-length c = search needs
 
 returns : tie.Need-returns
-returns c = sets (c .before .before .before .before .before .before .before .before .before .before .args .x) (c .before .before .before .before .before .before .before .before .before .before .args .s .now) (c .before .before .put-account .last .0) (c .before .before .before .before .before .account .result) (c .before .before .before .with-settings .result) (c .before .before .before .before .before .before .before .if1 .taken) (c .before .before .before .before .before .account .ensures) (c .before .before .before .with-settings .ensures) (c .before .before .put-account .ensures)
+returns c =
+    let given = c .before .before .before .before .before .before .before .before .before .before .args in
+    let read = c .before .before .before .before .before .account in
+    let settled = c .before .before .before .with-settings in
+    let put = c .before .before .put-account in
+    sets (given .x) (given .s .now) (put .last .0) (read .result) (settled .result)
+    (c .before .before .before .before .before .before .before .if1 .taken) (read .ensures) (settled .ensures) (put .ensures)
 
 moves-requires : tie.Need-moves-requires
 moves-requires c κs = tt
 
 returns-2 : tie.Need-returns-2
-returns-2 c = rests (c .before .before .before .before .before .args .x) (c .before .before .before .before .before .args .s .now) (c .before .before .if1 .left) (sym (c .before .moves .ensures) ∙ not-true _ (c .if2 .taken))
+returns-2 c =
+    let given = c .before .before .before .before .before .args in
+    rests (given .x) (given .s .now) (c .before .before .if1 .left) (sym (c .before .moves .ensures) ∙ not-true _ (c .if2 .taken))
 
 move-money-requires : tie.Need-move-money-requires
 move-money-requires c κs =
-    let kind = ne-eqb (c .before .before .before .before .before .before .args .x .kind) setKind (c .before .before .before .if1 .left) in
+    let start : tie.Start = c .before .before .before .before .before .before in
+    let kind = ne-eqb (start .args .x .kind) setKind (c .before .before .before .if1 .left) in
     let some = sym (c .before .before .moves .ensures) ∙ not-false _ (c .before .if2 .left) in
-    let within = moved-within (c .before .before .before .before .before .before .args .x) (c .before .before .before .before .before .before .pre .1) kind some in
-    (c .before .before .before .before .before .before .pre .0, within .0, within .1, within .2)
+    let within = moved-within (start .args .x) (start .pre .1) kind some in
+    (start .pre .0, within .0, within .1, within .2)
 
 same-length-2 : tie.Need-same-length-2
 same-length-2 c = search needs
 
 returns-3 : tie.Need-returns-3
 returns-3 c =
-    transfers (c .before .before .before .before .before .before .before .before .before .args .x) (c .before .before .before .before .before .before .before .before .before .args .s .now) (c .before .before .move-money .last .0) (c .before .before .before .before .before .before .if1 .left)
-    (sym (c .before .before .before .before .before .moves .ensures) ∙ not-false _ (c .before .before .before .before .if2 .left)) (c .before .before .move-money .ensures)
+    let given = c .before .before .before .before .before .before .before .before .before .args in
+    let some = sym (c .before .before .before .before .before .moves .ensures) ∙ not-false _ (c .before .before .before .before .if2 .left) in
+    let moved = c .before .before .move-money in
+    transfers (given .x) (given .s .now) (moved .last .0) (c .before .before .before .before .before .before .if1 .left) some (moved .ensures)
 
 pub do-effect-spec : {M : Type 1} → statement M
 do-effect-spec =
