@@ -113,7 +113,7 @@ module _ (dir : List Participant) (room : List ℕ) where
   detailsOf call = detailOf dir room (got call) call
 
   abbrev pub valuesOf : Call → List ℕ
-  valuesOf call = givesBack dir room (got call) call
+  valuesOf call = givesBack dir room call
 
   pub table-distinct : (call : Call) → distinct (tableOf call) ≡ true
   unfolding table

@@ -76,8 +76,7 @@ sheetIn (under ticket act) = ofSubmit [] (λ sender today sheet slip. sheet) act
 sheetIn (writing slip buffer) = []
 sheetIn (reading bytes) = []
 
--- of a call in a room with a directory, and of what its sheet is received as, which is what the grammar and the tables of fields say (`Due`)
-module _ (dir : List Participant) (room : List ℕ) (received : Answer) where
+module _ (dir : List Participant) (room : List ℕ) where
   -- 1: room unfit
   unfoldable pub roomRefused : Call → Bool
   roomRefused call = ofOpening (λ seat sums. not (roomFits room)) call || ofActs (λ ticket act. not (roomFits room)) call
@@ -116,12 +115,13 @@ module _ (dir : List Participant) (room : List ℕ) (received : Answer) where
   unfoldable pub numberRefused : Call → Bool
   numberRefused call = ofOpening (λ seat sums. sumsBad dir sums) call || ofActs (λ ticket act. numberBad act) call
 
-  -- 7: sheet ill-formed; 8: unknown message, or a field missing, doubled or ill-shaped
-  abbrev pub sheetRefused : Act → Bool
-  sheetRefused act = ofSubmit false (λ sender today sheet slip. sheetBad received) act
+  -- 7: sheet ill-formed; 8: unknown message, or a field missing, doubled or ill-shaped. Both go by what the sheet is received as, which is what the
+  -- grammar and the tables of fields say (`Due`)
+  abbrev pub sheetRefused : Answer → Act → Bool
+  sheetRefused received act = ofSubmit false (λ sender today sheet slip. sheetBad received) act
 
-  abbrev pub fieldRefused : Act → Bool
-  fieldRefused act = ofSubmit false (λ sender today sheet slip. fieldBad received) act
+  abbrev pub fieldRefused : Answer → Act → Bool
+  fieldRefused received act = ofSubmit false (λ sender today sheet slip. fieldBad received) act
 
   -- 9: submit or set with 24 steps
   abbrev pub makesStep : Act → Bool
@@ -147,13 +147,13 @@ module _ (dir : List Participant) (room : List ℕ) (received : Answer) where
   slipRefused (reading bytes) = readBad bytes
 
   -- 12: submit fails check 1 or 2
-  abbrev pub checkOf : Ticket → Act → ℕ
-  checkOf ticket act =
+  abbrev pub checkOf : Answer → Ticket → Act → ℕ
+  checkOf received ticket act =
       ofSubmit 0 (λ sender today sheet slip. verdictOn (caseOf dir sender today) received (seatOf room (ticket .seat))) act
 
   -- the table of refusals in its order, 1 to 6, 11, 9, 10, 7, 8, 12: each number, and whether its row applies
-  unfoldable pub table : Call → List (ℕ × Bool)
-  table call =
+  unfoldable pub table : Answer → Call → List (ℕ × Bool)
+  table received call =
       (1, roomRefused call)
       ∷ (2, directoryRefused call)
       ∷ (3, ticketRefused call)
@@ -163,23 +163,23 @@ module _ (dir : List Participant) (room : List ℕ) (received : Answer) where
       ∷ (11, slipRefused call)
       ∷ (9, ofActs (λ ticket act. makesStep act && journalFull (seatOf room (ticket .seat))) call)
       ∷ (10, ofActs (λ ticket act. takesBack act && nothingToTakeBack (seatOf room (ticket .seat))) call)
-      ∷ (7, ofActs (λ ticket act. sheetRefused act) call)
-      ∷ (8, ofActs (λ ticket act. fieldRefused act) call)
-      ∷ (12, ofActs (λ ticket act. notTaken (checkOf ticket act)) call)
+      ∷ (7, ofActs (λ ticket act. sheetRefused received act) call)
+      ∷ (8, ofActs (λ ticket act. fieldRefused received act) call)
+      ∷ (12, ofActs (λ ticket act. notTaken (checkOf received ticket act)) call)
       ∷ []
 
   -- the place, the field or the check that 7, 8 and 12 name; every other detail is 0
-  abbrev pub detailBy : Ticket → Act → ℕ → ℕ
-  detailBy ticket act n =
+  abbrev pub detailBy : Answer → Ticket → Act → ℕ → ℕ
+  detailBy received ticket act n =
       ofSubmit 0
-      (λ sender today sheet slip. cond (eqb n 7 || eqb n 8) (numberOf received .1) (cond (eqb n 12) (checkOf ticket act) 0))
+      (λ sender today sheet slip. cond (eqb n 7 || eqb n 8) (numberOf received .1) (cond (eqb n 12) (checkOf received ticket act) 0))
       act
 
-  abbrev pub detailOf : Call → ℕ → ℕ
-  detailOf (opening seat sums) n = 0
-  detailOf (under ticket act) n = detailBy ticket act n
-  detailOf (writing slip buffer) n = 0
-  detailOf (reading bytes) n = 0
+  abbrev pub detailOf : Answer → Call → ℕ → ℕ
+  detailOf received (opening seat sums) n = 0
+  detailOf received (under ticket act) n = detailBy received ticket act n
+  detailOf received (writing slip buffer) n = 0
+  detailOf received (reading bytes) n = 0
 
   -- what a call that is done gives back: the opening number, one above the seat's last; all that the account holds; what the slip says
   abbrev pub givesBack : Call → List ℕ
@@ -205,7 +205,7 @@ pub record Refused (dir : List Participant) (room : List ℕ) (received : Answer
       → Exactly (callTold dir call room .number ≡ n) ((applies ≡ true) × (none before ≡ true))
   -- and 0 exactly when no row applies; then there is no detail, and the values are what the call gives back
   pub done : Exactly (callTold dir call room .number ≡ 0) (none (table dir room received call) ≡ true)
-  pub gives : callTold dir call room .number ≡ 0 → callTold dir call room ≡ finished (givesBack dir room received call)
+  pub gives : callTold dir call room .number ≡ 0 → callTold dir call room ≡ finished (givesBack dir room call)
   -- a refusal has the detail named and no values
   pub detail : (callTold dir call room .number ≡ 0 → ⊥)
       → (callTold dir call room .detail ≡ detailOf dir room received call (callTold dir call room .number)) × (callTold dir call room .values ≡ [])
