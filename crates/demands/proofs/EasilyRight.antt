@@ -15,7 +15,7 @@ use Rattle.journal.proofs.Backed.{back-restores}
 use Rattle.seat.proofs.Reached.{fit-free}
 use Rattle.seat.proofs.Kept.{fit-long, fit-open}
 use Rattle.demands.specs.EasilyWrong.{Taken, EasilyWrong}
-use Rattle.demands.proofs.Repeats.{uetr-kept, identifier-kept}
+use Rattle.demands.proofs.Repeats.{uetr-found, identifier-found, uetr-kept, identifier-kept}
 
 -- a take-back of a step that is taken
 module _ (x : Step) (s : List ℕ) (t : Taken x s) where
@@ -39,6 +39,8 @@ easily-right =
     record {
       uetr-kept = uetr-kept;
       identifier-kept = identifier-kept;
+      uetr-stays = uetr-found;
+      identifier-stays = identifier-found;
       all-restored = λ x s t. restored x s t;
       zero-shut = λ a amount e. zero-limit a amount e;
       none-free = λ a amount e. no-limit a amount e;

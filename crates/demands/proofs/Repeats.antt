@@ -84,12 +84,12 @@ unfolding earliest journalOf
 found-in trace s k there e = found-from trace s (headOf s .steps) 0 k (omega arith) (omega arith) e
 
 module _ (s : List ℕ) (k : ℕ) (there : k < headOf s .steps) where
-  uetr-found : (isKind (kindNumber Pacs008) (stepOf s k) || isKind (kindNumber Camt050) (stepOf s k)) ≡ true
+  pub uetr-found : (isKind (kindNumber Pacs008) (stepOf s k) || isKind (kindNumber Camt050) (stepOf s k)) ≡ true
       → (c : Case) → sameUetr (stepOf s k .uetr) (c .message .uetr) ≡ true → uetrRepeated c s ≡ true
   unfolding uetrRepeated leaves
   uetr-found kind c same = found-in (trace.Transfer (c .message .uetr)) s k there (rw (kind, same))
 
-  identifier-found : isKind setKind (stepOf s k) ≡ false
+  pub identifier-found : isKind setKind (stepOf s k) ≡ false
       → (c : Case) → sameIdentifier (stepOf s k .id) (c .message .id .stored) ≡ true → identifierRepeated c s ≡ true
   unfolding identifierRepeated leaves
   identifier-found kind c same = found-in (trace.Message (c .message .id .stored)) s k there (rw (kind, same))

@@ -1,24 +1,28 @@
 -- "Easy to get wrong": the three lines of document 01, each as it has to be.
-use mathlib.Core.Bool.{true, false}
+use mathlib.Core.Bool.{true, false, _||_}
 use mathlib.Core.List.{List, _∷_, _++_}
 use mathlib.Core.Path.{_≡_}
 use Prim.Native.Nat.{ℕ, _<_}
 use Rattle.shape.specs.Bytes.{every}
-use Rattle.table.specs.declared.Kind.the-variants.{Pacs028}
+use Rattle.shape.specs.Stored.{sameIdentifier, sameUetr}
+use Rattle.table.specs.declared.Kind.the-variants.{Pacs008, Camt050, Pacs028}
 use Rattle.table.specs.Checks.{orderOf}
-use Rattle.slip.specs.Meaning.{steps}
+use Rattle.slip.specs.Meaning.{steps, kindNumber}
 use Rattle.message.specs.declared.Message.{Message}
 use Rattle.message.specs.declared.Answer.the-variants.{Good}
 use Rattle.message.specs.Due.{Due}
 use Rattle.directory.specs.declared.Participant.{Participant}
 use Rattle.layout.specs.declared.rows.Account.{Account}
 use Rattle.layout.specs.declared.rows.Step.{Step}
-use Rattle.layout.specs.Seat.{headOf}
+use Rattle.layout.specs.Seat.{headOf, stepOf}
+use Rattle.journal.specs.Steps.{setKind, isKind}
 use Rattle.journal.specs.Working.{stepped, backed, possible}
 use Rattle.seat.specs.Fit.{seatFits}
 use Rattle.journal.specs.Limits.{turnoverAbove, turnoverShut}
 use Rattle.seat.specs.Calls.{limitNumber}
 use Rattle.seat.specs.declared.calls.Limit.the-variants.{Of, None}
+use Rattle.judge.specs.declared.case.Case.{Case}
+use Rattle.judge.specs.Rows.{identifierRepeated, uetrRepeated}
 use Rattle.centre.specs.declared.Ticket.{Ticket}
 use Rattle.demands.specs.Messages.{answer, roomThen, Heard, passes, FailedBy}
 
@@ -61,6 +65,12 @@ pub record EasilyWrong : Type 0 where
   -- and a message of any kind its identifier: a second one with it fails by 6
   pub identifier-kept : (dir : List Participant) (ticket : Ticket) (room : List ℕ) (first second : Handed) (m n : Message)
       → OneAfterOther dir ticket room first second m n → n .id .stored ≡ m .id .stored → EndsBy 6 dir ticket room first second m n
+  -- and so as long as the step stands in the journal, whatever came between: the checks on repeats fail
+  pub uetr-stays : (s : List ℕ) (k : ℕ) → k < headOf s .steps
+      → (isKind (kindNumber Pacs008) (stepOf s k) || isKind (kindNumber Camt050) (stepOf s k)) ≡ true
+      → (c : Case) → sameUetr (stepOf s k .uetr) (c .message .uetr) ≡ true → uetrRepeated c s ≡ true
+  pub identifier-stays : (s : List ℕ) (k : ℕ) → k < headOf s .steps → isKind setKind (stepOf s k) ≡ false
+      → (c : Case) → sameIdentifier (stepOf s k .id) (c .message .id .stored) ≡ true → identifierRepeated c s ≡ true
   -- a take-back restores all: money, turnover, old settings, free identifiers; the very numbers of the seat
   pub all-restored : (x : Step) (s : List ℕ) → Taken x s → backed (stepped x s) ≡ s
   -- LPO 0 is a limit, reported as 24 and never as 23; no LPO is no limit
