@@ -21,6 +21,7 @@ use Rattle.slip.specs.declared.Status.the-variants.{Rjct}
 use Rattle.slip.specs.Meaning.{slipLong, steps, isSlip, statusNumber}
 use Rattle.slip.specs.Image.{fieldsOf, byteWidths, values, slipNumber, image, slipIn, slipOf as slipRead}
 use Rattle.slip.specs.Answers.{canWrite}
+use Rattle.slip.proofs.Exact.{image-first}
 use Rattle.slip.proofs.Small.{slip-small}
 use Rattle.message.specs.declared.Message.{Message}
 use Rattle.message.specs.declared.Answer.{Answer}
@@ -72,11 +73,6 @@ number-low f small = joined-small (fieldsOf f) small
 bytes-read : (f : Slip) → Small (fieldsOf f) → slipRead (image f) ≡ f
 unfolding slipRead image
 bytes-read f small = ap slipIn (joined-cut byteWidths (slipNumber f) (number-low f small)) ∙ number-read f small
-
--- the bytes of a slip are the first five of the buffer
-image-first : (f : Slip) (rest : List ℕ) → take slipLong (image f ++ rest) ≡ image f
-unfolding image
-image-first f rest = refl
 
 -- the slip of a step with another number: its values fit their fields too
 other-small : (ticket : Ticket) (m n : ℕ) (x : Step) → Small (fieldsOf (slipOf ticket m x)) → n ≤ steps → Small (fieldsOf (slipOf ticket n x))

@@ -45,8 +45,7 @@ use Rattle.demands.specs.Calls.{Call, submit, under, actTold, callTold}
 use Rattle.demands.specs.Refusals.{none, table}
 use Rattle.demands.specs.Messages.{Heard}
 use Rattle.demands.specs.EasilyWrong.{Handed, OneAfterOther, EndsBy}
-use Rattle.demands.proofs.Firsts.{zero-exactly}
-use Rattle.demands.proofs.Tables.{tableOf, table-distinct, call-tells}
+use Rattle.demands.proofs.Tables.{tableOf, done-none}
 use Rattle.demands.proofs.Heard.{Facts, facts}
 use Rattle.demands.proofs.Taken.{head-after, step-after}
 use Rattle.demands.proofs.Heeded.{judged}
@@ -109,8 +108,7 @@ module _ (dir : List Participant) (ticket : Ticket) (sender today : ℕ) (sheet 
 
   none-applies : none (tableOf dir room call) ≡ true
   unfolding callTold actTold
-  none-applies =
-      zero-exactly (callTold dir call room .number) (tableOf dir room call) (table-distinct dir room call) (call-tells dir room call .number) .0 done
+  none-applies = done-none dir room call done
 
   was-heard : Facts dir ticket sender today sheet slip room
   was-heard = facts dir ticket sender today sheet slip room (taken-none 11 (tableOf dir room call) none-applies)
@@ -121,10 +119,7 @@ module _ (dir : List Participant) (ticket : Ticket) (sender today : ℕ) (sheet 
       not-true (notTaken (verdictOn (caseOf dir sender today) (receivedOf sheet .answer) (seatOf room (ticket .seat))))
       (at-place (λ row. not (row .1)) (tableOf dir room call) (0, false) none-applies 11 (lit< tt))
 
--- the step of a message is no set, and that of a transfer is one
-is-message : (kind : Kind) → eqb (kindNumber kind) setKind ≡ false
-is-message kind = no-set-kind kind
-
+-- the step of a transfer is one
 is-transfer : (kind : Kind) → (kind ≡ Pacs028 → ⊥)
     → (eqb (kindNumber kind) (kindNumber Pacs008) || eqb (kindNumber kind) (kindNumber Camt050)) ≡ true
 unfolding kindNumber
@@ -222,7 +217,7 @@ module _ (dir : List Participant) (ticket : Ticket) (room : List ℕ) (first sec
   identifier-repeated : n .id .stored ≡ m .id .stored → fails secondCase seatThen 6 ≡ true
   unfolding fails rowsOf caseOf
   identifier-repeated same =
-      identifier-found seatThen count first-there (rw first-kind (is-message (m .kind))) secondCase
+      identifier-found seatThen count first-there (rw first-kind (no-set-kind (m .kind))) secondCase
       (same-identifier (stepOf seatThen count .id) (n .id .stored) (same ∙ sym first-identifier))
 
   pub uetr-kept : (m .kind ≡ Pacs028 → ⊥) → (n .kind ≡ Pacs028 → ⊥) → n .uetr ≡ m .uetr → EndsBy 17 dir ticket room first second m n

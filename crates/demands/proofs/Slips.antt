@@ -15,7 +15,7 @@ use Rattle.slip.specs.declared.Slip.{Slip}
 use Rattle.slip.specs.Meaning.{slipLong, isSlip}
 use Rattle.slip.specs.Image.{image, slipOf}
 use Rattle.slip.specs.Answers.{canWrite, writeAfter, holdsSlip}
-use Rattle.slip.proofs.Exact.{image-back, bytes-back}
+use Rattle.slip.proofs.Exact.{image-back, bytes-back, image-holds, image-first, writable}
 use Rattle.centre.specs.Answers.{done, refused, slipValues}
 use Rattle.centre.specs.Slips.{writeTold, readTold}
 use Rattle.demands.specs.Messages.{Slips}
@@ -38,21 +38,9 @@ unfolding readTold
 read-done bytes e = rw e
 
 -- the first bytes of what is left are those of the slip
-pub slip-first : (slip : Slip) (rest : List ℕ) → take slipLong (image slip ++ rest) ≡ image slip
-unfolding image
-slip-first slip rest = refl
-
 written-image : (slip : Slip) (buffer : List ℕ) → canWrite slip buffer ≡ true → take slipLong (writeAfter slip buffer) ≡ image slip
 unfolding writeAfter
-written-image slip buffer e = rw e (slip-first slip (drop slipLong buffer))
-
-written-sound : (slip : Slip) (buffer : List ℕ) → canWrite slip buffer ≡ true → isSlip slip ≡ true
-unfolding canWrite
-written-sound slip buffer e = and-right (leb slipLong (length buffer)) (isSlip slip) e
-
-image-holds : (slip : Slip) → isSlip slip ≡ true → holdsSlip (image slip) ≡ true
-unfolding holdsSlip image
-image-holds slip e = rw (image-back slip e, e)
+written-image slip buffer e = rw e (image-first slip (drop slipLong buffer))
 
 -- the bytes of a slip are read as what it says
 pub image-read : (slip : Slip) → isSlip slip ≡ true → readTold (image slip) ≡ done (slipValues slip)
@@ -70,7 +58,7 @@ pub slips : Slips
 slips = record {
   back = λ (slip : Slip) (buffer : List ℕ) (e : writeTold slip buffer .number ≡ 0).
       let can : canWrite slip buffer ≡ true = written-can slip buffer e in
-      ap readTold (written-image slip buffer can) ∙ image-read slip (written-sound slip buffer can);
+      ap readTold (written-image slip buffer can) ∙ image-read slip (writable slip buffer can);
   only = λ (bytes : List ℕ) (e : readTold bytes .number ≡ 0) (small : every (λ (b : ℕ). ltb b 256) bytes ≡ true).
       let holds : holdsSlip bytes ≡ true = read-holds bytes e in
       record {

@@ -1,8 +1,8 @@
 -- The balances of an open seat sum up to its opening sums: in a fit room the journal, worked forward from these, comes out, and no step changes the
 -- sum. Every room that calls reach is fit. An opening that is done leaves the sums that it was given.
 -- Assumes nothing.
-use mathlib.Core.Path.{_≡_, refl, ap, _∙_}
-use mathlib.Core.Bool.{Bool, true, false, not, _||_, false≢true}
+use mathlib.Core.Path.{_≡_, refl, sym, ap, _∙_}
+use mathlib.Core.Bool.{true, false, not, _||_}
 use mathlib.Core.List.{List, []}
 use Prim.Native.Nat.{ℕ, zero, suc, _+_, _<_}
 use native.Mathlib.Omega.{arith}
@@ -26,10 +26,9 @@ use Rattle.centre.specs.Answers.{isDone}
 use Rattle.centre.specs.Calls.{noSeat, openTold, openAfter}
 use Rattle.centre.proofs.First.{behind-done}
 use Rattle.demands.specs.Calls.{Call, opening, callTold, callRoom}
-use Rattle.demands.specs.Refusals.{none, roomRefused, ticketRefused, table}
+use Rattle.demands.specs.Refusals.{roomRefused, ticketRefused, table}
 use Rattle.demands.specs.Sums.{sumFrom, roomAfter, SumsUp, Sums}
-use Rattle.demands.proofs.Firsts.{zero-exactly}
-use Rattle.demands.proofs.Tables.{tableOf, table-distinct, call-tells}
+use Rattle.demands.proofs.Tables.{or-false, tableOf, done-none}
 use Rattle.demands.proofs.SeatLaws.{calls-fit}
 
 -- the same sums, as the journal and the seat have them
@@ -57,25 +56,15 @@ module _ (dir : List Participant) (room : List ℕ) (seat : ℕ) (sums : List �
 
   passed : (k : ℕ) → k < 12 → not (getD (tableOf dir room call) k (0, false) .1) ≡ true
   unfolding table
-  passed k h =
-      at-place (λ row. not (row .1)) (tableOf dir room call) (0, false)
-      (zero-exactly (callTold dir call room .number) (tableOf dir room call) (table-distinct dir room call) (call-tells dir room call .number) .0 done) k h
+  passed k h = at-place (λ row. not (row .1)) (tableOf dir room call) (0, false) (done-none dir room call done) k h
 
   fit : roomFits room ≡ true
   unfolding table roomRefused
-  fit = or-fit (roomFits room) (passed 0 (lit< tt))
-    where
-      or-fit : (t : Bool) → not (not t || false) ≡ true → t ≡ true
-      or-fit true e = refl
-      or-fit false e = absurd (false≢true e)
+  fit = not-false (roomFits room) (sym (or-false (not (roomFits room))) ∙ not-true (not (roomFits room) || false) (passed 0 (lit< tt)))
 
   low : seat < seats
   unfolding table ticketRefused noSeat
-  low = leb-false seats seat (or-low (noSeat seat) (passed 2 (lit< tt)))
-    where
-      or-low : (t : Bool) → not (t || false) ≡ true → t ≡ false
-      or-low true e = absurd (false≢true e)
-      or-low false e = refl
+  low = leb-false seats seat (sym (or-false (noSeat seat)) ∙ not-true (noSeat seat || false) (passed 2 (lit< tt)))
 
   left : callRoom dir call room ≡ withSeat room seat (openSeat (suc (headOf (seatOf room seat) .opening)) sums)
   unfolding callTold callRoom openAfter isDone

@@ -32,6 +32,7 @@ use Rattle.centre.specs.Submit.{verdictOn, notTaken, submitTold}
 use Rattle.centre.specs.Slips.{writeTold, readTold as slipTold}
 use Rattle.demands.specs.Calls.{Act, close, set, submit, takeBack, read, Call, opening, under, writing, reading, actTold, callTold}
 use Rattle.demands.specs.Refusals.{
+  none,
   roomRefused,
   directoryRefused,
   ticketRefused,
@@ -44,7 +45,7 @@ use Rattle.demands.specs.Refusals.{
   detailOf,
   givesBack,
 }
-use Rattle.demands.proofs.Firsts.{firstNumber, distinct}
+use Rattle.demands.proofs.Firsts.{firstNumber, distinct, zero-exactly}
 
 -- the numbers of a call's own table
 abbrev numbers : List (Bool × Told) → List (ℕ × Bool)
@@ -89,7 +90,7 @@ pub record Tells (told : Told) (rows : List (ℕ × Bool)) (detail : ℕ → ℕ
   pub gives : told .number ≡ 0 → told ≡ done values
 
 -- the tests of an opening stand in front of those of acts, which are false there
-or-false : (t : Bool) → (t || false) ≡ t
+pub or-false : (t : Bool) → (t || false) ≡ t
 or-false true = refl
 or-false false = refl
 
@@ -178,3 +179,7 @@ module _ (dir : List Participant) (room : List ℕ) where
   call-tells (under ticket act) = act-tells ticket act
   call-tells (writing slip buffer) = tells ((not (canWrite slip buffer), refused 11) ∷ []) [] refl refl ((refl, refl), tt)
   call-tells (reading bytes) = tells ((not (holdsSlip bytes), refused 11) ∷ []) (slipValues (slipOf bytes)) refl refl ((refl, refl), tt)
+
+  -- a call that is done is one that no row applies to
+  pub done-none : (call : Call) → callTold dir call room .number ≡ 0 → none (tableOf call) ≡ true
+  done-none call = zero-exactly (callTold dir call room .number) (tableOf call) (table-distinct call) (call-tells call .number) .0

@@ -14,6 +14,7 @@ use Rattle.shape.proofs.Tests.{and-left}
 use Rattle.slip.specs.declared.Slip.{Slip}
 use Rattle.slip.specs.Meaning.{seats, openings, steps, slipLong, kindNumber, says, isSlip}
 use Rattle.slip.specs.Image.{image}
+use Rattle.slip.proofs.Exact.{image-first}
 use Rattle.message.specs.declared.Message.{Message}
 use Rattle.message.specs.declared.Answer.the-variants.{Good}
 use Rattle.message.specs.Received.{receivedOf}
@@ -46,7 +47,7 @@ use Rattle.centre.proofs.Judged.{done-refused, not-one, not-two}
 use Rattle.demands.specs.Messages.{Move, slipSaid, stepStored, Recorded}
 use Rattle.demands.proofs.Heard.{Facts, seat-there, seat-own}
 use Rattle.demands.proofs.Movement.{moveIn}
-use Rattle.demands.proofs.Slips.{slip-first, image-read}
+use Rattle.demands.proofs.Slips.{image-read}
 
 -- an answer that is done, and one that is refused by 12
 done-done : isDone (done []) ≡ true
@@ -69,7 +70,17 @@ module _ (dir : List Participant) (ticket : Ticket) (sender today : ℕ) (sheet 
   unfolding submitTold judgedTold verdictOn
   told-judged = rw (f .fit, f .listed, f .ticketed, f .named, f .long, f .free, good)
 
-  step-made : stepOn (caseOf dir sender today) (receivedOf sheet .answer) place ≡ made
+  -- what submit makes: the step of what the sheet was received as, the room with it and the buffer with its slip
+  abbrev stepOnSheet : Step
+  stepOnSheet = stepOn (caseOf dir sender today) (receivedOf sheet .answer) place
+
+  abbrev roomMade : List ℕ
+  roomMade = withSeat room (ticket .seat) (stepped stepOnSheet place)
+
+  abbrev slipMade : List ℕ
+  slipMade = image (slipOf ticket (suc (headOf place .steps)) stepOnSheet) ++ drop slipLong slip
+
+  step-made : stepOnSheet ≡ made
   unfolding stepOn
   step-made = rw good
 
@@ -119,9 +130,9 @@ module _ (dir : List Participant) (ticket : Ticket) (sender today : ℕ) (sheet 
     not-taken = (
       told-refused,
       behind-refused (submitTold dir ticket sender today sheet slip room)
-          (withSeat room (ticket .seat) (stepped (stepOn (caseOf dir sender today) (receivedOf sheet .answer) place) place)) room over,
+          roomMade room over,
       behind-refused (submitTold dir ticket sender today sheet slip room)
-          (image (slipOf ticket (suc (headOf place .steps)) (stepOn (caseOf dir sender today) (receivedOf sheet .answer) place)) ++ drop slipLong slip) slip over,
+          slipMade slip over,
     )
 
     -- so its place in the journal is still free
@@ -147,7 +158,7 @@ module _ (dir : List Participant) (ticket : Ticket) (sender today : ℕ) (sheet 
     unfolding submitTold submitAfter
     room-after =
         behind-done (submitTold dir ticket sender today sheet slip room)
-        (withSeat room (ticket .seat) (stepped (stepOn (caseOf dir sender today) (receivedOf sheet .answer) place) place)) room finished
+        roomMade room finished
         ∙ ap (λ (x : Step). withSeat room (ticket .seat) (stepped x place)) step-made
 
     -- the seat after it has that step more
@@ -166,7 +177,7 @@ module _ (dir : List Participant) (ticket : Ticket) (sender today : ℕ) (sheet 
     unfolding submitTold submitSlip
     slip-made =
         behind-done (submitTold dir ticket sender today sheet slip room)
-        (image (slipOf ticket (suc (headOf place .steps)) (stepOn (caseOf dir sender today) (receivedOf sheet .answer) place)) ++ drop slipLong slip) slip finished
+        slipMade slip finished
         ∙ ap (λ (x : Step). image (slipOf ticket (suc (headOf place .steps)) x) ++ drop slipLong slip) step-made
 
     -- what the slip says, by the step and by the outcome
@@ -207,7 +218,7 @@ module _ (dir : List Participant) (ticket : Ticket) (sender today : ℕ) (sheet 
     slip-back =
         let said : Slip = slipSaid dir ticket sender today sheet slip room m (outcome case place) in
         ap (λ (b : List ℕ). readTold (take slipLong b)) slip-left
-        ∙ ap readTold (slip-first said (drop slipLong slip)) ∙ image-read said slip-sound
+        ∙ ap readTold (image-first said (drop slipLong slip)) ∙ image-read said slip-sound
 
     -- the step stands in its place, and stores what it should
     pub step-after : stepOf (seatOf (submitAfter dir ticket sender today sheet slip room) (ticket .seat)) (headOf place .steps) ≡ made

@@ -1,13 +1,13 @@
 -- What the code that works a step forward or back leaves, put together from what its calls leave.
 -- Assumes nothing.
-use mathlib.Core.Path.{_≡_, ap, _∙_}
-use mathlib.Core.Bool.{Bool, true, false}
+use mathlib.Core.Path.{_≡_, sym, ap, _∙_}
+use mathlib.Core.Bool.{Bool, true, false, not}
 use mathlib.Core.List.{List}
 use Prim.Native.Nat.{ℕ, _+_, _-_, _≤_, _<_}
 use native.Mathlib.Numerals.{add-one}
 use native.Mathlib.Omega.{arith}
 use lib.Dec.{leb}
-use borrow.Author.Tests.{eq-eqb, ne-eqb}
+use borrow.Author.Tests.{eq-eqb, ne-eqb, not-false}
 use Rattle.slip.specs.Meaning.{steps}
 use Rattle.layout.specs.declared.rows.Head.{Head}
 use Rattle.layout.specs.declared.rows.Account.{Account}
@@ -15,7 +15,7 @@ use Rattle.layout.specs.declared.rows.Step.{Step}
 use Rattle.layout.specs.Seat.{accounts, headOf, withHead, accountOf, withAccount, stepOf, withStep}
 use Rattle.layout.proofs.Seats.{account-other}
 use Rattle.journal.specs.Low.{lowMost, Low}
-use Rattle.journal.specs.Steps.{setKind, moves, sameSettings, stepFits, noStep}
+use Rattle.journal.specs.Steps.{setKind, amountMost, moves, sameSettings, stepFits, noStep}
 use Rattle.journal.specs.Working.{
   settled,
   debited,
@@ -36,6 +36,7 @@ use Rattle.journal.specs.Working.{
   covered,
   possible,
 }
+use Rattle.journal.proofs.StepLaws.{set-account, moved-within}
 
 -- an account that was read has room above it
 pub read-turnover : (s : List ℕ) (i : ℕ) (a : Account) → Low s → i < accounts → a ≡ accountOf s i → a .turnover ≤ lowMost
@@ -129,6 +130,14 @@ module _ (x : Step) (s : List ℕ) where
   pub fit : (b : Bool) → stepFits x ≡ true → b ≡ covered x s → b ≡ possible x s
   unfolding possible
   fit b f e = rw f e
+
+-- the accounts that a fit step names, by the tests as the code makes them: a set its own, a step that moves money both sides
+pub set-named : (x : Step) → stepFits x ≡ true → x .kind ≡ setKind → x .account < accounts
+set-named x fits sets = set-account x fits (eq-eqb (x .kind) setKind sets)
+
+pub sides-named : (x : Step) (moving : Bool) → stepFits x ≡ true → (x .kind ≡ setKind → ⊥) → moving ≡ moves x → not moving ≡ false
+    → (x .debit < accounts) × (x .credit < accounts) × (x .amount ≤ amountMost)
+sides-named x moving fits other asked some = moved-within x fits (ne-eqb (x .kind) setKind other) (sym asked ∙ not-false moving some)
 
 -- a step more, and a step less
 pub appends : (x : Step) (s t u v : List ℕ) (h : Head) → h ≡ headOf s → t ≡ effect x s → u ≡ withStep t (h .steps) x

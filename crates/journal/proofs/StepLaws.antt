@@ -23,7 +23,8 @@ use Rattle.layout.specs.declared.rows.Settings.{Settings}
 use Rattle.layout.specs.declared.rows.Step.{Step}
 use Rattle.layout.specs.Seat.{accounts}
 use Rattle.journal.specs.Results.{resultFits}
-use Rattle.journal.specs.Steps.{setKind, amountMost, settingsFit, sameSettings, isStored, isStoredUetr, noMessage, noMovement, noSet, setFits, isKind, moves, between, movementFits, referenceFits, messageFits, stepFits, noStep}
+use Rattle.journal.specs.Steps.{setKind, amountMost, settingsFit, sameSettings, isStored, isStoredUetr, noMessage, noMovement, noSet}
+use Rattle.journal.specs.Steps.{setFits, isKind, moves, between, movementFits, referenceFits, messageFits, stepFits, noStep}
 
 -- the text that is handed on: at most 35 of its bytes are the identifier's, they stand in front, and are as many as it says
 module _ (t : Text) (x : Identifier) (e : t ≡ storedText x) where
@@ -96,7 +97,9 @@ set-given x e k = and-right (noMessage x && noMovement x && ltb (x .account) acc
 movement-fits : (x : Step) → stepFits x ≡ true → isKind setKind x ≡ false → movementFits x ≡ true
 unfolding stepFits messageFits
 movement-fits x e k =
-    let front = resultFits (x .kind) (x .status) (x .check) && leb (x .sender) codeMost && isStored (x .id) && isStoredUetr (x .uetr) && isTime (x .created) && referenceFits x in
+    let front =
+    resultFits (x .kind) (x .status) (x .check) && leb (x .sender) codeMost
+    && isStored (x .id) && isStoredUetr (x .uetr) && isTime (x .created) && referenceFits x in
     let h = subst (λ (t : Bool). cond t (setFits x) (messageFits x) ≡ true) k e in
     and-right front (movementFits x) (and-left (front && movementFits x) (noSet x) h)
 

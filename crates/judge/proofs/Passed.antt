@@ -32,7 +32,8 @@ use Rattle.judge.specs.declared.money.Holding.{Holding}
 use Rattle.judge.specs.declared.money.Holding.the-variants as holding
 use Rattle.judge.specs.Values.{agree, orZero}
 use Rattle.judge.specs.Case.{Arises, debitOwner, creditOwner, accountOn, movementOf, caseOf}
-use Rattle.judge.specs.Rows.{senderUnlisted, senderIndirect, senderNoOwner, notFromSender, creditorAnothers, debtorAnothers, digitsWrong, instructedNoBank, movementIn, accountAt, shows, moneyShort}
+use Rattle.judge.specs.Rows.{senderUnlisted, senderIndirect, senderNoOwner, notFromSender, creditorAnothers, debtorAnothers}
+use Rattle.judge.specs.Rows.{digitsWrong, instructedNoBank, movementIn, accountAt, shows, moneyShort}
 use Rattle.judge.specs.Verdict.{fails, rowsOf, verdict}
 use Rattle.judge.proofs.Verdicts.{none-fails}
 

@@ -25,7 +25,8 @@ use Rattle.layout.specs.declared.rows.Step.{Step}
 use Rattle.layout.specs.Seat.{accounts, accountOf, seatLong}
 use Rattle.journal.specs.declared.results.Outcome.{Outcome}
 use Rattle.journal.specs.Results.{resultFits}
-use Rattle.journal.specs.Steps.{setKind, amountMost, noIdentifier, sameSettings, isStored, isStoredUetr, noMovement, noSet, setFits, moves, between, movementFits, referenceFits, messageFits, stepFits}
+use Rattle.journal.specs.Steps.{setKind, amountMost, noIdentifier, sameSettings, isStored, isStoredUetr, noMovement, noSet}
+use Rattle.journal.specs.Steps.{setFits, moves, between, movementFits, referenceFits, messageFits, stepFits}
 use Rattle.journal.specs.Working.{covered, possible}
 use Rattle.journal.proofs.ResultLaws.{result-said}
 use Rattle.journal.proofs.StepLaws.{stored-fits, uetr-fits}

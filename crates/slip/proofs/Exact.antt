@@ -61,11 +61,21 @@ read-exactly s f e =
       λ h. held (holdsSlip s) (slipOf s) f (law .1 h .0) (law .1 h .1),
     )
 
-image-read : (f : Slip) → isSlip f ≡ true → readAnswer (image f) ≡ Holds f
-unfolding readAnswer holdsSlip isSlip slipOf slipIn image slipNumber fieldsOf
-image-read f e = held (holdsSlip (image f)) (slipOf (image f)) f (forms.image-holds fiveBytes five-sound f e) (image-back f e)
+-- the bytes of a slip hold it, and stand first in a buffer that begins with them
+pub image-holds : (f : Slip) → isSlip f ≡ true → holdsSlip (image f) ≡ true
+unfolding holdsSlip isSlip slipOf slipIn image slipNumber fieldsOf
+image-holds f e = forms.image-holds fiveBytes five-sound f e
 
-writable : (f : Slip) (buffer : List ℕ) → canWrite f buffer ≡ true → isSlip f ≡ true
+pub image-first : (f : Slip) (rest : List ℕ) → take slipLong (image f ++ rest) ≡ image f
+unfolding image
+image-first f rest = refl
+
+image-read : (f : Slip) → isSlip f ≡ true → readAnswer (image f) ≡ Holds f
+unfolding readAnswer
+image-read f e = held (holdsSlip (image f)) (slipOf (image f)) f (image-holds f e) (image-back f e)
+
+-- what can be written is a slip
+pub writable : (f : Slip) (buffer : List ℕ) → canWrite f buffer ≡ true → isSlip f ≡ true
 unfolding canWrite
 writable f buffer e = and-right (leb slipLong (length buffer)) (isSlip f) e
 

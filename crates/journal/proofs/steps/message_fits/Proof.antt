@@ -26,7 +26,16 @@ no-set-requires c κs = tt
 
 returns : tie.Need-returns
 unfolding messageFits
-returns c = rw (c .before .before .before .before .before .before .before .result-fits .ensures, c .before .before .before .before .before .is-stored .ensures, c .before .before .before .before .is-stored-uetr .ensures, c .before .before .before .is-time .ensures, c .before .before .reference-fits .ensures, c .before .movement-fits .ensures, c .no-set .ensures)
+returns c =
+    rw (
+      c .before .before .before .before .before .before .before .result-fits .ensures,
+      c .before .before .before .before .before .is-stored .ensures,
+      c .before .before .before .before .is-stored-uetr .ensures,
+      c .before .before .before .is-time .ensures,
+      c .before .before .reference-fits .ensures,
+      c .before .movement-fits .ensures,
+      c .no-set .ensures,
+    )
 
 pub message-fits-spec : {M : Type 1} → statement M
 message-fits-spec =

@@ -12,7 +12,9 @@ is-between-requires c κs = tt
 
 returns : tie.Need-returns
 unfolding movementFits
-returns c = rw (sym (c .before .before .before .before .before .before .moves .ensures) ∙ c .before .before .before .before .before .if1 .taken, c .is-between .ensures)
+returns c =
+    let asked = c .before .before .before .before .before in
+    rw (sym (asked .before .moves .ensures) ∙ asked .if1 .taken, c .is-between .ensures)
 
 no-movement-requires : tie.Need-no-movement-requires
 no-movement-requires c κs = tt

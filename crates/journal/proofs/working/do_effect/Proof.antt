@@ -1,17 +1,15 @@
 -- A set, a step that moves nothing and a movement are told apart as the definition does; a fit step names accounts of the seat.
 use mathlib.Core.Path.{sym, _∙_}
-use borrow.Author.Tests.{eq-eqb, ne-eqb, not-true, not-false}
+use borrow.Author.Tests.{not-true, not-false}
 use borrow.Author.Needs.{needs}
-use Rattle.journal.specs.Steps.{setKind}
-use Rattle.journal.proofs.StepLaws.{set-account, moved-within}
-use Rattle.journal.proofs.Moves.{sets, rests, transfers}
+use Rattle.journal.proofs.Moves.{sets, rests, transfers, set-named, sides-named}
 use Rattle.journal.proofs.working.do_effect.Statement.{statement}
 use Rattle.journal.proofs.working.do_effect.Tie as tie
 
 account-requires : tie.Need-account-requires
 account-requires c κs =
     let start : tie.Start = c .before .before .before .before in
-    (start .pre .0 .long, set-account (start .args .x) (start .pre .1) (eq-eqb (start .args .x .kind) setKind (c .before .if1 .taken)))
+    (start .pre .0 .long, set-named (start .args .x) (start .pre .1) (c .before .if1 .taken))
 
 with-settings-requires : tie.Need-with-settings-requires
 with-settings-requires c κs = search needs
@@ -19,7 +17,7 @@ with-settings-requires c κs = search needs
 put-account-requires : tie.Need-put-account-requires
 put-account-requires c κs =
     let start : tie.Start = c .before .before .before .before .before .before .before in
-    (start .pre .0 .long, set-account (start .args .x) (start .pre .1) (eq-eqb (start .args .x .kind) setKind (c .before .before .before .before .if1 .taken)))
+    (start .pre .0 .long, set-named (start .args .x) (start .pre .1) (c .before .before .before .before .if1 .taken))
 
 same-length : tie.Need-same-length
 same-length c = search needs
@@ -44,10 +42,10 @@ returns-2 c =
 move-money-requires : tie.Need-move-money-requires
 move-money-requires c κs =
     let start : tie.Start = c .before .before .before .before .before .before in
-    let kind = ne-eqb (start .args .x .kind) setKind (c .before .before .before .if1 .left) in
-    let some = sym (c .before .before .moves .ensures) ∙ not-false _ (c .before .if2 .left) in
-    let within = moved-within (start .args .x) (start .pre .1) kind some in
-    (start .pre .0, within .0, within .1, within .2)
+    let asked = c .before .before .moves in
+    let other = c .before .before .before .if1 .left in
+    let named = sides-named (start .args .x) (asked .result) (start .pre .1) other (asked .ensures) (c .before .if2 .left) in
+    (start .pre .0, named .0, named .1, named .2)
 
 same-length-2 : tie.Need-same-length-2
 same-length-2 c = search needs

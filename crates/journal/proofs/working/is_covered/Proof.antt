@@ -1,17 +1,15 @@
 -- Each way out is one side of the definition; a fit step names accounts of the seat.
 use mathlib.Core.Path.{sym, _∙_}
-use borrow.Author.Tests.{eq-eqb, ne-eqb, not-true, not-false}
+use borrow.Author.Tests.{not-true, not-false}
 use borrow.Author.Needs.{needs}
-use Rattle.journal.specs.Steps.{setKind}
-use Rattle.journal.proofs.StepLaws.{set-account, moved-within}
-use Rattle.journal.proofs.Moves.{covers-set, covers-none, covers-one, covers-two}
+use Rattle.journal.proofs.Moves.{covers-set, covers-none, covers-one, covers-two, set-named, sides-named}
 use Rattle.journal.proofs.working.is_covered.Statement.{statement}
 use Rattle.journal.proofs.working.is_covered.Tie as tie
 
 account-requires : tie.Need-account-requires
 account-requires c κs =
     let start : tie.Start = c .before .before .before in
-    (start .pre .0, set-account (start .args .x) (start .pre .1) (eq-eqb (start .args .x .kind) setKind (c .if1 .taken)))
+    (start .pre .0, set-named (start .args .x) (start .pre .1) (c .if1 .taken))
 
 same-settings-requires : tie.Need-same-settings-requires
 same-settings-requires c κs = search needs
@@ -40,9 +38,9 @@ returns-3 c =
 account-requires-2 : tie.Need-account-requires-2
 account-requires-2 c κs =
     let start : tie.Start = c .before .before .before .before .before .before .before in
-    let kind = ne-eqb (start .args .x .kind) setKind (c .before .before .before .before .if1 .left) in
-    let some = sym (c .before .before .before .moves .ensures) ∙ not-false _ (c .before .before .if2 .left) in
-    (start .pre .0, moved-within (start .args .x) (start .pre .1) kind some .0)
+    let asked = c .before .before .before .moves in
+    let other = c .before .before .before .before .if1 .left in
+    (start .pre .0, sides-named (start .args .x) (asked .result) (start .pre .1) other (asked .ensures) (c .before .before .if2 .left) .0)
 
 returns-4 : tie.Need-returns-4
 returns-4 c =
