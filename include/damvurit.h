@@ -1,6 +1,6 @@
 /*
- * Damvurit for C: a practice centre for payment clerks. Eight pupils share a room, each in a seat; a pupil submits pacs.008, camt.050 and
- * pacs.028 messages and gets the answer of the payment system as a slip of five bytes.
+ * Damvurit for C: a practice centre for payment clerks. Twelve pupils share a room, each in a seat; a pupil submits pacs.008, camt.050 and
+ * pacs.028 messages and gets the answer of the payment system as a slip of six bytes.
  *
  * Link libdamvurit.a (x86-64 Linux); of the C library it uses memcpy and memset alone. What each function answers and leaves is proved: its
  * contract stands with its name in crates/damvurit/src/lib.rt, and holds for every input. What this page asks of memory and threads is the
@@ -27,8 +27,15 @@
 extern "C" {
 #endif
 
-/* How many numbers a room has, to declare one; damvurit_room_size() is the authority. */
-#define DAMVURIT_ROOM_SIZE 7384
+/* How many numbers a room has, to declare one; damvurit_room_size() is the authority. A room of another length is unfit. */
+#define DAMVURIT_ROOM_SIZE 11076
+
+/* How many seats a room has: 0 to 11. */
+#define DAMVURIT_SEATS 12
+
+/* The bytes of a slip that is written. Mark books hold slips of the five-byte form, for seats 0 to 7, so both lengths are read. */
+#define DAMVURIT_SLIP_SIZE 6
+#define DAMVURIT_FIVE_BYTE_SLIP_SIZE 5
 
 /* The two parts of a result. */
 #define DAMVURIT_NUMBER(result) ((result) % 256)
@@ -39,7 +46,7 @@ enum damvurit_number {
     DAMVURIT_DONE = 0,                 /* for opening, the detail is the opening number; else 0 */
     DAMVURIT_ROOM_UNFIT = 1,           /* the room's numbers are none that calls leave; for laying out, a wrong length */
     DAMVURIT_DIRECTORY_UNFIT = 2,
-    DAMVURIT_NO_TICKET = 3,            /* a seat above 7; but for opening, a closed seat or another opening number */
+    DAMVURIT_NO_TICKET = 3,            /* a seat above 11; but for opening, a closed seat or another opening number */
     DAMVURIT_ALREADY_OPEN = 4,
     DAMVURIT_NO_OPENING_LEFT = 5,      /* the seat was opened 65,535 times */
     DAMVURIT_BAD_NUMBER = 6,           /* a sum, block, limit, date, sender, account number or owner; a wrong count of sums */
@@ -47,7 +54,7 @@ enum damvurit_number {
     DAMVURIT_BAD_FIELD = 8,            /* detail: the field, 1 to 14, or 0 where the message is unknown */
     DAMVURIT_JOURNAL_FULL = 9,         /* 24 steps */
     DAMVURIT_NOTHING_TO_TAKE_BACK = 10,
-    DAMVURIT_NO_SLIP = 11,             /* a buffer under five bytes; fields or bytes that are no slip */
+    DAMVURIT_NO_SLIP = 11,             /* a buffer under six bytes; fields or bytes that are no slip */
     DAMVURIT_NOT_TAKEN = 12            /* the sender failed check 1 or 2; detail: the check */
 };
 
@@ -64,7 +71,7 @@ uint64_t damvurit_room_size(void);
 uint64_t damvurit_lay_out(uint64_t *room, size_t n);
 
 /*
- * Opens a seat, 0 to 7. The sums, in kopecks, come record by record, account 1 then account 2, so that k is twice the records; 0 to 10^15 for an
+ * Opens a seat, 0 to 11. The sums, in kopecks, come record by record, account 1 then account 2, so that k is twice the records; 0 to 10^15 for an
  * owner, 0 for others. Answers 0 with the opening number, 1 to 65,535, or 1 to 6. Seat and opening number are the ticket for all other calls.
  */
 uint64_t damvurit_open(uint64_t *room, size_t n, const uint64_t *dir, size_t d, uint64_t seat, const uint64_t *sums, size_t k);
@@ -81,8 +88,8 @@ uint64_t damvurit_set(uint64_t *room, size_t n, const uint64_t *dir, size_t d, u
 
 /*
  * Submits a sheet of m bytes for a sender on a date (yyyymmdd, 2000 to 2099). A message that is taken is one step, carried out or not, and its slip
- * stands in the first five bytes of the slip buffer; the bytes behind them stay. Answers 0, 1, 2, 3, 6, 11, 9, 7 with the place, 8 with the field
- * or 12 with the check.
+ * stands in the first six bytes of the slip buffer, which has l bytes, six or more; the bytes after them stay. Answers 0, 1, 2, 3, 6, 11, 9, 7 with
+ * the place, 8 with the field or 12 with the check.
  */
 uint64_t damvurit_submit(uint64_t *room, size_t n, const uint64_t *dir, size_t d, uint64_t seat, uint64_t opening, uint64_t sender, uint64_t date,
                          const uint8_t *sheet, size_t m, uint8_t *slip, size_t l);
@@ -98,12 +105,15 @@ uint64_t damvurit_read(const uint64_t *room, size_t n, const uint64_t *dir, size
                        uint64_t account, uint64_t out[7]);
 
 /*
- * Writes a slip into the first five bytes of a buffer of l bytes; those behind them stay. Kind 1 pacs.008, 2 camt.050, 3 pacs.028; status 0 PDNG,
- * 1 ACCC, 2 RJCT; check 0 to 34; seat 0 to 7; opening 1 to 65,535; step 1 to 24. Answers 0 or 11.
+ * Writes a slip into the first six bytes of a buffer of l bytes, six or more; those after them stay. Kind 1 pacs.008, 2 camt.050, 3 pacs.028;
+ * status 0 PDNG, 1 ACCC, 2 RJCT; check 0 to 34; seat 0 to 11; opening 1 to 65,535; step 1 to 24. Answers 0 or 11.
  */
 uint64_t damvurit_write_slip(uint64_t kind, uint64_t status, uint64_t check, uint64_t seat, uint64_t opening, uint64_t step, uint8_t *slip, size_t l);
 
-/* Reads a slip of exactly five bytes. `out` gets kind, status, check, seat, opening and step, or zeros. Answers 0 or 11. */
+/*
+ * Reads a slip of l bytes, exactly five or exactly six: the length alone says the form, and a five-byte slip with a byte after it may be a slip that
+ * says something else. `out` gets kind, status, check, seat, opening and step, the same six numbers from either form, or zeros. Answers 0 or 11.
+ */
 uint64_t damvurit_read_slip(const uint8_t *slip, size_t l, uint64_t out[6]);
 
 #ifdef __cplusplus

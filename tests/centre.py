@@ -1,5 +1,6 @@
-"""The practice centre worked out a second time from document 01: the directory, a room of eight seats, the calls with their refusals, the
-34 checks and the slip. Shapes, sheets and fields are those of `second.py` and `messages.py`; nothing is taken from the Rattle code.
+"""The practice centre worked out a second time from document 01 and request 8 of document 02: the directory, a room of twelve seats, the
+calls with their refusals and the 34 checks. Shapes, sheets and fields are those of `second.py` and `messages.py`, slips are those of
+`slips.py`; nothing is taken from the Rattle code.
 
 Fitness is not worked out: a room counts as unfit from a poke on, until that place has its number again. Only an opening number may be
 poked to another one, since any number in its range is as fit as the one that was given out."""
@@ -9,17 +10,15 @@ from collections import namedtuple
 
 from messages import KINDS, received
 from second import kopecks_in, name_as, read, real_date, stored_as, time_in
+from slips import ACCC, CAMT_050, KIND_NUMBERS, OPENINGS, ORDERS, PACS_008, PACS_028, PDNG, RJCT, SEATS, STEPS, WRITTEN, write_slip
 
-SEATS, SEAT_LONG, ROOM_LONG, STEPS, OPENINGS, MOST = 8, 923, 7384, 24, 65535, 10**15
+# How many numbers a seat and a room have, and the highest sum, in kopecks.
+SEAT_LONG, MOST = 923, 10**15
+ROOM_LONG = SEATS * SEAT_LONG
 OWNER, DIRECT, INDIRECT, PROVIDER = range(4)
-PACS_008, CAMT_050, PACS_028, SET = range(1, 5)
-PDNG, ACCC, RJCT = range(3)
 
-ORDERS = {
-    PACS_008: [1, 2, 3, 5, 6, 7, 8, 17, 25, 27, 26, 28, 29, 30, 31, 32, 33, 34, 20, 21, 22, 23, 24],
-    CAMT_050: [1, 2, 3, 4, 5, 7, 12, 13, 14, 15, 16, 6, 17, 18, 19, 20, 21, 22, 23, 24],
-    PACS_028: [1, 2, 3, 5, 6, 7, 8, 9, 10, 11],
-}
+# The kind of a step that sets an account; the other steps have the kinds of their messages.
+SET = 4
 
 # What the fields of a kind are called here, in document 01's order.
 FIELDS = {
@@ -43,7 +42,7 @@ class Message:
     """The fields of a sheet by name; a missing one is an empty text, and a kind has only its own."""
 
     def __init__(self, kind, rows):
-        self.kind = {"pacs.008": PACS_008, "camt.050": CAMT_050, "pacs.028": PACS_028}[kind]
+        self.kind = KIND_NUMBERS[kind]
         for name, row in zip(FIELDS[kind], rows):
             setattr(self, name, row["text"] if row else "")
             if name == "amount":
@@ -217,33 +216,6 @@ FAILS = {
 }
 
 
-def is_slip(kind, status, check, seat, opening, step):
-    def ends(of):
-        return (status, check) == (ACCC, 0) or (status == RJCT and check in ORDERS[of][2:])
-
-    says = {PACS_008: ends(PACS_008), CAMT_050: ends(CAMT_050),
-            PACS_028: ends(PACS_008) or (status == PDNG and check in ORDERS[PACS_028][2:])}
-    return says.get(kind, False) and seat < SEATS and 1 <= opening <= OPENINGS and 1 <= step <= STEPS
-
-
-WIDTHS = (3, 2, 6, 3, 16, 10)
-
-
-def write_slip(values, buffer):
-    if len(buffer) < 5 or not is_slip(*values):
-        return 11, 0
-    buffer[:5] = int("".join(f"{value:0{width}b}" for width, value in zip(WIDTHS, values)), 2).to_bytes(5, "big")
-    return 0, 0
-
-
-def read_slip(slip):
-    bits, values, at = f"{int.from_bytes(slip, 'big'):040b}", [], 0
-    for width in WIDTHS:
-        values.append(int(bits[at : at + width], 2))
-        at += width
-    return (0, 0, *values) if len(slip) == 5 and is_slip(*values) else (11, 0, *[0] * 6)
-
-
 def refusal(*tests):
     """The first of these numbers whose test holds, else 0."""
     return next((number for number, test in tests if test()), 0)
@@ -330,7 +302,7 @@ class Centre:
     def submit(self, seat, opening, sender, date, sheet, slip):
         number = refusal(
             self.room_unfit(), self.directory_unfit(), self.no_ticket(seat, opening), (6, lambda: not day_of(date) or sender > 999999),
-            (11, lambda: len(slip) < 5), self.full(seat))
+            (11, lambda: len(slip) < WRITTEN.long), self.full(seat))
         if number:
             return number, 0
         message, number, detail = message_in(sheet)

@@ -10,18 +10,22 @@ import sys
 
 import judged
 import refused
-from centre import CAMT_050, ORDERS
+import seats
 from script import asked, centre, met, printed
+from slips import CAMT_050, ORDERS
 
 # The refusals that each call can give.
 REFUSALS = {"lay": [1], "open": [1, 2, 3, 4, 5, 6], "close": [1, 3], "set": [1, 2, 3, 6, 9], "submit": [1, 2, 3, 6, 7, 8, 9, 11, 12],
             "back": [1, 3, 10], "read": [1, 2, 3, 6], "write": [11], "slip": [11]}
 
+# A script stays short enough to be read; the program takes 524,288 bytes.
+LINES_MOST, BYTES_MOST = 900, 400000
+
 
 def whole():
     """Plays all scenes and gives both texts. Every check of a kind must have been the first to fail, but for 19, which cannot be;
     and each must have failed by itself, 19 too, where all that fail are listed."""
-    for scene in (*judged.SCENES, *refused.SCENES):
+    for scene in (*judged.SCENES, *refused.SCENES, *seats.SCENES):
         scene()
     checks = {(kind, check) for kind in ORDERS for check in [0, *ORDERS[kind]]} - {(CAMT_050, 19)}
     assert centre.reached == checks, checks ^ centre.reached
@@ -30,7 +34,7 @@ def whole():
     refusals = {(call, number) for call in REFUSALS for number in [0, *REFUSALS[call]]}
     assert met == refusals, met ^ refusals
     texts = ["\n".join(lines) + "\n" for lines in (asked, printed)]
-    assert len(asked) < 700 and len(texts[0]) < 400000, (len(asked), len(texts[0]))
+    assert len(asked) < LINES_MOST and len(texts[0]) < BYTES_MOST, (len(asked), len(texts[0]))
     return texts
 
 

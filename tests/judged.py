@@ -1,20 +1,22 @@
 """The scenes of messages that are judged: the cases of document 01, each check as the first that fails, and messages carried out."""
+from centre import ROOM_LONG
 from script import (BAD_IBAN, CASES, SCHOOL, back, call, centre, id_of, listed, note, payment, play, printed, put, request, rows, show,
                     start, submit, transfer)
+from slips import STEPS, WRITTEN
 
 ONE, TWO, BRANCH = 300001, 300002, 300012
 
 
 def cases():
     def fresh():
-        call(0, "lay", 7384)
+        call(0, "lay", ROOM_LONG)
         start(3, 50000, 10000)
 
     note("The cases of document 01. Case 1, and case 8 in its slip: 500.00 from account 1 to account 2, and 500.01.")
     listed(*CASES)
     fresh()
     submit("ACCC 0", 3, ONE, transfer(ONE, "500.00"))
-    assert printed[-1].endswith("slip 480c000401")
+    assert printed[-1].endswith("slip 480600020080")
     show(3, ONE)
     play("dump 3")
     fresh()
@@ -107,11 +109,11 @@ def transfers():
 
 def full_journal():
     note("Case 11: step 25 is refused. With a short buffer it is 11, a bad number or date 6; a bad sheet or unlisted sender 9 still.")
-    while len(centre.seats[1].steps) < 24:
+    while len(centre.seats[1].steps) < STEPS:
         put(1, TWO, 2, ltk=len(centre.seats[1].steps))
     late = submit("9 0", 1, ONE, transfer(ONE, "0.01"))
     put(1, ONE, 2, wants=9)
-    submit("11 0", 1, ONE, late, long=4)
+    submit("11 0", 1, ONE, late, long=WRITTEN.long - 1)
     put(1, ONE, 3, wants=6)
     put(1, ONE, 2, ltk=10**15 + 1, wants=6)
     submit("6 0", 1, ONE, late, date=20240230)
@@ -311,7 +313,7 @@ def dates():
     note("A creation time before 2000 is ill-shaped; a call's date that is none is refused, before a short buffer is.")
     submit("8 2", 6, ONE, transfer(ONE, created="1999-12-31T23:59:59"), date=20000101)
     for date in (20230229, 20240431, 19991231, 202403011):
-        submit("6 0", 6, ONE, "<A></A>", date=date, long=4)
+        submit("6 0", 6, ONE, "<A></A>", date=date, long=WRITTEN.long - 1)
 
 
 def rows_alone():

@@ -1,20 +1,39 @@
-"""The scenes of calls that are refused, each with what stands beside the fault, and of seats that share a room."""
+"""The scenes of calls that are refused, each with what stands beside the fault."""
+from centre import ROOM_LONG, SEAT_LONG
 from messages import FITS, KINDS, document, is_money
-from script import (back, call, centre, listed, note, payment, play, put, request, show, start, submit, sums, ticket, transfer)
+from script import back, call, centre, listed, note, payment, play, put, request, show, start, submit, sums, ticket, transfer
+from slips import FIVE_BYTES, HIGH_SEATS, NO_SEATS, SEATS, SIX_BYTES, WRITTEN, image
 
 ONE, TWO = 300001, 300002
 
+# A room of eight seats, which has a wrong length; and the longest that the drill lends.
+EIGHT_SEATS_LONG, LENT_MOST = 8 * SEAT_LONG, ROOM_LONG + 16
 
-def slips():
-    note("Slips: buffers that are too short, of five bytes and longer; then fields that no slip has; then bytes to be read.")
-    for long in (0, 4, 5, 8):
-        call(0 if long >= 5 else 11, "write", 2, 1, 0, 3, 1, 1, long)
-    assert call(0, "write", 1, 2, 34, 7, 65535, 24, 6) and call(0, "slip", "345ffffc18")[2:] == (1, 2, 34, 7, 65535, 24)
-    for values in [(10, 1, 0, 3, 1, 1), (2, 5, 0, 0, 1, 1), (3, 0, 17, 0, 1, 1),
-                   (2, 1, 0, 8, 1, 1), (2, 1, 0, 0, 65537, 1), (2, 1, 0, 0, 1, 25)]:
+
+def slips_written():
+    note("Slips that are written: into buffers under six bytes; of six bytes and longer, whose bytes after the sixth stay.")
+    for long in (0, 4, 5, 6, 7, 8):
+        call(0 if long >= WRITTEN.long else 11, "write", 2, 1, 0, 3, 1, 1, long)
+    for seat in HIGH_SEATS:
+        call(0, "write", 1, 2, 34, seat, 65535, 24, 7)
+    note("Fields that no slip has; seats 12 to 15, which fit into four bits, are none.")
+    for values in [(10, 1, 0, 3, 1, 1), (2, 5, 0, 0, 1, 1), (3, 0, 17, 0, 1, 1), (2, 1, 0, 16, 1, 1), (2, 1, 0, 0, 65537, 1),
+                   (2, 1, 0, 0, 1, 25), *[(2, 1, 0, seat, 1, 1) for seat in NO_SEATS]]:
         call(11, "write", *values, 8)
-    assert call(0, "slip", "480c000401")[2:] == (2, 1, 0, 3, 1, 1)
-    for digits in ["480c000401aa", "480c0004", "", "480c000400"]:
+
+
+def slips_read():
+    note("Slips that are read: case 8 in five bytes and in six; its five bytes and a zero byte say something else. The highest ones.")
+    for digits, values in [("480c000401", (2, 1, 0, 3, 1, 1)), ("480600020080", (2, 1, 0, 3, 1, 1)), ("480c00040100", (2, 1, 0, 6, 2, 2)),
+                           ("345ffffc18", (1, 2, 34, 7, 65535, 24)), ("3457fffe0c00", (1, 2, 34, 11, 65535, 24))]:
+        assert call(0, "slip", digits)[2:] == values
+    note("Six bytes with seats 8 to 11, and with 12 to 15, which are none; then with a one among the last seven bits.")
+    for seat in (*HIGH_SEATS, *NO_SEATS):
+        call(0 if seat < SEATS else 11, "slip", image(SIX_BYTES, (2, 1, 0, seat, 1, 1)).hex())
+    for bit in range(SIX_BYTES.zeros):
+        call(11, "slip", f"4806000200{0x80 | 1 << bit:02x}")
+    note("Other lengths, six bytes cut to five, and steps that are none in both forms.")
+    for digits in ["", "480c0004", "48060002008000", "480c0004010000", "4806000200800000", "4806000200", "480c000400", "480600020000"]:
         call(11, "slip", digits)
 
 
@@ -52,7 +71,8 @@ def sheets():
     submit("11 0", 0, ONE, transfer(ONE), long=0)
     submit("11 0", 0, ONE, "<A></A>", long=1)
     submit("11 0", 0, 300009, good, long=4)
-    submit("ACCC 0", 0, ONE, transfer(ONE, "0.01"), long=6)
+    submit("11 0", 0, ONE, transfer(ONE, "0.01"), long=5)
+    submit("ACCC 0", 0, ONE, transfer(ONE, "0.01"), long=7)
     submit("7 4", 0, ONE, "<A></A>", long=8)
     submit("8 0", 0, ONE, "<A>x</A>", long=7)
     submit("12 2", 0, 300011, good, long=6)
@@ -60,12 +80,12 @@ def sheets():
 
 
 def numbers():
-    note("Tickets: seat above 7, a closed seat, opening numbers that differ; with other bad numbers beside them it is 3 still.")
+    note("Tickets: seat above 11, a closed seat, opening numbers that differ; with other bad numbers beside them it is 3 still.")
     start(1, 50000, 10000)
     seat, opening = ticket(1)
     sheet = str(transfer(ONE))
-    call(3, "open", 8, 1)
-    call(3, "close", 8, opening)
+    call(3, "open", SEATS, 1)
+    call(3, "close", SEATS, opening)
     call(3, "close", 0, centre.seats[0].opening)
     call(3, "close", seat, opening + 65536)
     call(3, "back", 2**64 - 1, opening)
@@ -95,50 +115,6 @@ def numbers():
     play("dump 0")
 
 
-def two_seats():
-    note("Two seats in turn: the same messages in both, and neither sees the other.")
-    call(0, "lay", 7384)
-    start(0, 50000, 10000)
-    start(7, 100, 200, 300, 400)
-    paid, moved = payment(ONE), transfer(ONE)
-    submit("ACCC 0", 0, ONE, paid)
-    submit("PDNG 10", 7, ONE, request(ONE, paid))
-    submit("ACCC 0", 7, ONE, moved)
-    submit("ACCC 0", 0, ONE, moved)
-    submit("ACCC 0", 7, ONE, paid)
-    put(7, ONE, 1, 1, 1, 5, 0)
-    submit("ACCC 0", 0, ONE, transfer(ONE))
-    submit("RJCT 20", 7, ONE, transfer(ONE))
-    back(0, 3)
-    submit("RJCT 6", 7, ONE, paid)
-    call(10, "back", *ticket(0))
-    show(0, ONE)
-    show(7, ONE)
-    note("One is closed and opened again: its opening number grows, its journal is empty, its old ticket is 3. The other goes on.")
-    call(0, "close", *ticket(0))
-    play("dump 0")
-    call(3, "read", 0, 1, ONE, 1)
-    submit("RJCT 17", 7, ONE, transfer(ONE, uetr=moved["uetr"]))
-    assert call(0, "open", 0, *sums(7, 8))[2] == 2
-    call(3, "back", 0, 1)
-    submit("RJCT 22", 0, ONE, paid)
-    play("dump 0")
-    play("dump 7")
-
-
-def openings():
-    note("The last opening number: a closed seat's count is stored as 65,534; opened and closed, the seat is 5, with bad sums too.")
-    play(f"poke {2 * 923} 65534")
-    assert call(0, "open", 2, *sums(50000, 10000))[2] == 65535
-    call(4, "open", 2, 1)
-    submit("ACCC 0", 2, ONE, transfer(ONE))
-    call(0, "read", 2, 65535, ONE, 2)
-    call(0, "close", 2, 65535)
-    call(5, "open", 2, *sums())
-    call(5, "open", 2, 1)
-    play("dump 2")
-
-
 def account_place(account, number):
     """Of seat 0."""
     return 3 + 7 * account + number
@@ -166,47 +142,70 @@ def rooms():
     submit("RJCT 22", 0, ONE, transfer(ONE, "400.00"))
     submit("ACCC 0", 0, ONE, payment(ONE, amount="3.00"))
     sheet = transfer(ONE)
-    spoilt(account_place(0, 1), 30001, ("open", 8, 1))
-    spoilt(account_place(0, 2), 0, ("close", 8, 1))
+    spoilt(account_place(0, 1), 30001, ("open", SEATS, 1))
+    spoilt(account_place(0, 2), 0, ("close", SEATS, 1))
     spoilt(account_place(0, 6), 0, ("set", *ticket(0), ONE, 3, 0, 0, 0, "-"))
-    spoilt(account_place(31, 0), 1, ("submit", *ticket(0), ONE, 20240301, 5, sheet))
+    spoilt(account_place(31, 0), 1, ("submit", *ticket(0), ONE, 20240301, WRITTEN.long, sheet))
     spoilt(step_place(2, 19), 19999, ("submit", *ticket(0), 1000000, 0, 4, "<A></A>"))
     spoilt(step_place(3, 2), 25, ("back", 0, 65536))
     spoilt(step_place(4, 17), 0, ("read", *ticket(0), ONE, 1))
     spoilt(step_place(5, 28), 1, ("back", *ticket(0)))
     spoilt(0, 65536, ("back", *ticket(0)))
-    play("poke 7384 1")
+    spoilt(8 * SEAT_LONG, 65536, ("open", 8, *sums()))
+    spoilt(11 * SEAT_LONG + 2, 1, ("read", *ticket(0), ONE, 1))
+    spoilt(ROOM_LONG - 1, 1, ("close", *ticket(0)))
+    play(f"poke {ROOM_LONG} 1")
     show(0, ONE)
     play("dump 0")
     note("Rooms of a wrong length: 1 for laying out and for every call behind it. A new room has no opening numbers.")
     call(1, "lay", 0)
     call(1, "open", 0, *sums())
-    call(1, "lay", 7383)
+    call(1, "lay", ROOM_LONG - 1)
     call(1, "set", *ticket(0), ONE, 1, 0, 0, 0, "-")
     call(1, "close", *ticket(0))
-    call(1, "lay", 7385)
-    call(1, "submit", *ticket(0), ONE, 20240301, 5, sheet)
-    call(1, "lay", 7400)
+    call(1, "lay", ROOM_LONG + 1)
+    call(1, "submit", *ticket(0), ONE, 20240301, WRITTEN.long, sheet)
+    call(1, "lay", LENT_MOST)
     call(1, "back", *ticket(0))
     call(1, "read", *ticket(0), ONE, 1)
-    call(0, "lay", 7384)
+    call(0, "lay", ROOM_LONG)
     play("dump 0")
-    play(f"poke {2 * 923 - 1} 1")
+    play(f"poke {2 * SEAT_LONG - 1} 1")
     call(1, "open", 0, *sums())
-    call(0, "lay", 7384)
+    call(0, "lay", ROOM_LONG)
     call(0, "open", 0, *sums(5, 6))
+
+
+def eight_seats():
+    note("A room of eight seats has a wrong length: 1 for laying out, and for every call, good or bad. Its numbers stay.")
+    start(0, 50000, 10000)
+    submit("ACCC 0", 0, ONE, transfer(ONE))
+    seat, opening = ticket(0)
+    call(1, "lay", EIGHT_SEATS_LONG)
+    call(1, "open", 1, *sums())
+    call(1, "open", SEATS)
+    call(1, "set", seat, opening, ONE, 1, 0, 0, 0, "-")
+    call(1, "submit", seat, opening, ONE, 20240301, WRITTEN.long, transfer(ONE))
+    call(1, "submit", seat, opening, ONE, 20240301, FIVE_BYTES.long, "<A></A>")
+    call(1, "back", seat, opening)
+    call(1, "read", seat, opening, ONE, 1)
+    call(1, "close", seat, opening)
+    play("dump 0")
+    call(0, "lay", ROOM_LONG)
 
 
 def directories():
     note("Unfit directories: 2, with a bad ticket and bad numbers too; with an unfit room 1. Close and take back ask for none.")
+    start(0, 5, 6)
     put(0, ONE, 1, ltk=1)
     listed()
-    bad = (("open", 8, 1), ("set", 0, 0, ONE, 3, 0, 0, 10**15 + 1, "-"), ("submit", 9, 1, 1000000, 0, 0, ""), ("read", 0, 0, ONE, 3))
+    bad = (("open", SEATS, 1), ("set", 0, 0, ONE, 3, 0, 0, 10**15 + 1, "-"), ("submit", SEATS, 1, 1000000, 0, 0, ""),
+           ("read", 0, 0, ONE, 3))
     for words in bad:
         call(2, *words)
     spoilt(account_place(0, 1), 6, *bad)
     call(0, "back", *ticket(0))
-    call(3, "close", 8, 1)
+    call(3, "close", SEATS, 1)
     note("Unsorted, a code twice, a code above 999999, one that names no owner, one that names nobody.")
     for records in [[(TWO, 1, 0, 0), (ONE, 1, 0, 0)], [(ONE, 1, 0, 0), (ONE, 1, 0, 0)], [(ONE, 1, 0, 0), (1000000, 1, 0, 0)],
                     [(ONE, 1, 0, 0), (300011, 1, 1, ONE), (300012, 1, 2, 300011)], [(ONE, 1, 0, 0), (300021, 1, 3, TWO)]]:
@@ -236,4 +235,4 @@ def directories():
     play("dump 1")
 
 
-SCENES = (slips, sheets, numbers, two_seats, openings, rooms, directories)
+SCENES = (slips_written, slips_read, sheets, numbers, rooms, eight_seats, directories)

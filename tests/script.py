@@ -1,7 +1,8 @@
 """The script of the drill while it is made: a line is played with the model of `centre.py` as it is written, and what the program must
 print of it is kept beside it. Below that, messages and calls as the scenes write them."""
-from centre import FIELDS, Centre, Record, read_slip, write_slip
+from centre import FIELDS, Centre, Record
 from messages import KINDS, document, is_money
+from slips import WRITTEN, read_slip, write_slip
 
 # The lines of both files; `met` gathers which call answered with which number.
 asked, printed, met = [], [], set()
@@ -150,7 +151,7 @@ def ticket(seat):
     return seat, centre.seats[seat].opening
 
 
-def submit(wants, seat, sender, sheet, date=20240301, long=5):
+def submit(wants, seat, sender, sheet, date=20240301, long=WRITTEN.long):
     """Wants the step's result, such as `ACCC 0` or `RJCT 22`, or a refusal and its detail, such as `12 1`. Gives the sheet back."""
     number, detail = play(" ".join(map(str, ["submit", *ticket(seat), sender, date, long, sheet])))
     got = f"{number} {detail}"

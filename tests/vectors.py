@@ -1,15 +1,19 @@
 #!/usr/bin/env python3
 """Writes the vectors of crates/vectors: `stdin`, what is asked, and `stdout`, what must come out.
 
-What must come out is worked out a second time, from the documents (`second.py`, `messages.py`); nothing is taken from the Rattle code.
+What must come out is worked out a second time, from the documents (`second.py`, `messages.py`, `slips.py`); nothing is taken from the
+Rattle code.
 The IBANs are the example numbers that countries publish for ISO 13616.
 Run it from the project's root after a change to the vectors; `git diff` then shows what moved.
 """
 import datetime
+import itertools
 import re
 
 from messages import messages
 from second import UUID4, kopecks_in, number_as, packed, read, real_date, time_in
+from slips import (FIVE_BYTES, HIGH_SEATS, KIND_NUMBERS, NO_SEATS, ORDERS, SEATS, SIX_BYTES, STEPS, WRITTEN, image, meaning, says,
+                   write_slip)
 
 IBANS = """
 GB82WEST12345698765432 DE89370400440532013000 FR1420041010050500013M02606 ES9121000418450200051332
@@ -27,12 +31,6 @@ CHECKS = """
 23 M003 RR04|24 A018 RR04|25 X002 AGNT|26 H018 RC10|27 X001 AGNT|28 H065 CNOR|29 H066 CNOR|30 H008 AGNT|31 H019 AGNT
 32 H012 RC09|33 H013 RC09|34 T003 AC03
 """.strip().replace("\n", "|").split("|")
-
-ORDERS = {
-    "pacs.008": [1, 2, 3, *range(5, 9), 17, 25, 27, 26, *range(28, 35), *range(20, 25)],
-    "camt.050": [*range(1, 6), 7, *range(12, 17), 6, *range(17, 25)],
-    "pacs.028": [1, 2, 3, *range(5, 12)],
-}
 
 asked, answered = [], []
 
@@ -127,47 +125,105 @@ def table():
         vector("check " + number, f" {sep:4} {iso:4}")
     for number in ["0", "35"]:
         vector("check " + number, " " * 10)
-    for kind, order in ORDERS.items():
-        vector("order " + kind, "".join(f" {n}" for n in order))
+    for name, kind in KIND_NUMBERS.items():
+        vector("order " + name, "".join(f" {n}" for n in ORDERS[kind]))
 
 
-def is_slip(kind, status, check, seat, opening, step):
-    def appears(k):
-        return check in ORDERS[k][2:]
+# The five-byte slips that mark books and pages hold: of the first transfer, of the page for teachers, of the lesson with every answer.
+MARK_BOOKS = """
+480c000401 280c000402 52cc000801 526c000401 4800000401 5060000402 5080000403 50a0000404 50a0000405 50e0000406 5180000407 51a0000408
+51c0000409 51e000040a 520000040b 50c000040c 522000040d 524000040e 5280000410 52a0000412 52c0000413 52e0000415 5300000417 2800000801
+3100000802 3320000803 3360000804 3340000805 3380000806 33a0000807 33c0000808 33e0000809 340000080a 342000080b 344000080c 32c000080d
+322000080e 280000080f 2800000810 6800000810 7440000811 6120000812 6140000813 6160000814
+""".split()
 
-    def ends(k):
-        return (status, check) == (1, 0) or (status == 2 and appears(k))
-
-    says = {1: ends("pacs.008"), 2: ends("camt.050"), 3: (status == 0 and appears("pacs.028")) or ends("pacs.008")}
-    return says.get(kind, False) and seat <= 7 and 1 <= opening <= 65535 and 1 <= step <= 24
+# What a slip can say by its kind, status and check.
+SAYINGS = [saying for saying in itertools.product(*(range(2**width) for width in FIVE_BYTES.widths[:3])) if says(*saying)]
+assert len(SAYINGS) == 71
 
 
-WIDTHS = (3, 2, 6, 3, 16, 10)
+def write(values):
+    """Asks for a slip in a buffer that is two bytes longer; whether it is written."""
+    buffer = bytearray([0xEE] * (WRITTEN.long + 2))
+    number, _ = write_slip(values, buffer)
+    vector("write " + " ".join(map(str, values)), f" {number} {buffer.hex()}")
+    return number == 0
+
+
+def slip(digits):
+    """Asks what bytes say; their six values, or None where they are no slip."""
+    values = meaning(bytes.fromhex(digits))
+    vector("read " + digits, "".join(f" {value}" for value in values) if values else " no slip")
+    return values
+
+
+def slips_written():
+    for values in [
+        (2, 1, 0, 3, 1, 1), (1, 1, 0, 0, 1, 1), (1, 2, 34, 7, 65535, 24), (3, 0, 3, 5, 300, 12), (3, 2, 22, 1, 2, 3),
+        (3, 1, 0, 1, 2, 3), (2, 2, 19, 0, 1, 1), (1, 2, 34, 11, 65535, 24), (3, 0, 11, 10, 32768, 16),
+    ]:
+        assert write(values)
+    for values in [
+        (2, 2, 25, 0, 1, 1), (1, 2, 4, 0, 1, 1), (1, 2, 1, 0, 1, 1), (1, 2, 2, 0, 1, 1), (3, 0, 22, 0, 1, 1), (3, 0, 0, 0, 1, 1),
+        (1, 0, 3, 0, 1, 1), (1, 1, 3, 0, 1, 1), (1, 2, 0, 0, 1, 1), (1, 3, 0, 0, 1, 1), (0, 1, 0, 0, 1, 1), (4, 1, 0, 0, 1, 1),
+        (2, 1, 0, 0, 0, 1), (2, 1, 0, 0, 65536, 1), (2, 1, 0, 0, 1, 0), (2, 1, 0, 0, 1, 25), (2, 1, 0, 16, 1, 1),
+    ]:
+        assert not write(values)
+    for seat in HIGH_SEATS:
+        assert write((2, 1, 0, seat, 1, 1))
+    for seat in NO_SEATS:
+        assert not write((2, 1, 0, seat, 1, 1))
+
+
+def slips_of_five_bytes():
+    for digits in MARK_BOOKS:
+        assert image(FIVE_BYTES, slip(digits)).hex() == digits
+    for digits in ["2800000401", "2800000405", "345ffffc18"]:
+        assert slip(digits)
+    for digits in [
+        "480c000000", "480c000019", "480c000419", "480c000400", "400c000401", "e80c000401", "0000000000", "ffffffffff", "351bfffc18",
+        "352bfffc18", "615400ffff",
+    ]:
+        assert not slip(digits)
+
+
+def slips_of_six_bytes():
+    # case 8 in both forms; then its five bytes and a zero byte, which say something else
+    assert slip("480c000401") == slip("480600020080") == (2, 1, 0, 3, 1, 1)
+    assert slip("480c00040100") == (2, 1, 0, 6, 2, 2)
+    assert slip("344ffffe0c00") == (1, 2, 34, 7, 65535, 24)
+    assert slip("3457fffe0c00") == (1, 2, 34, 11, 65535, 24)
+    # each of the last seven bits
+    for bit in range(SIX_BYTES.zeros):
+        assert not slip(f"4806000200{0x80 | 1 << bit:02x}")
+    for seat in HIGH_SEATS:
+        assert slip(image(SIX_BYTES, (2, 1, 0, seat, 1, 1)).hex()) == (2, 1, 0, seat, 1, 1)
+    for seat in NO_SEATS:
+        assert not slip(image(SIX_BYTES, (2, 1, 0, seat, 1, 1)).hex())
+    # kinds 0, 4 and 7; a camt.050 with PDNG and with status 3; checks 1 and 40; opening 0; steps 0, 25 and 1023
+    for digits in [
+        "080600020080", "880600020080", "e80600020080", "400600020080", "580600020080", "502600020080", "350600020080", "480600000080",
+        "480600020000", "480600020c80", "48060003ff80", "000000000000", "ffffffffffff", "480c000401ee", "480c000401ff",
+    ]:
+        assert not slip(digits)
+
+
+def slips_of_other_lengths():
+    for digits in ["", "605700", "480c0004", "48060002", "48060002008000", "480c0004010000", "4806000200800000", "480c000401000000"]:
+        assert not slip(digits)
+    # six bytes cut to five
+    assert not slip("4806000200")
 
 
 def slips():
-    for values in [
-        (2, 1, 0, 3, 1, 1), (1, 1, 0, 0, 1, 1), (1, 2, 34, 7, 65535, 24), (3, 0, 3, 5, 300, 12), (3, 2, 22, 1, 2, 3),
-        (3, 1, 0, 1, 2, 3), (2, 2, 19, 0, 1, 1), (2, 2, 25, 0, 1, 1), (1, 2, 4, 0, 1, 1), (1, 2, 1, 0, 1, 1), (1, 2, 2, 0, 1, 1),
-        (3, 0, 22, 0, 1, 1), (3, 0, 0, 0, 1, 1), (1, 0, 3, 0, 1, 1), (1, 1, 3, 0, 1, 1), (1, 2, 0, 0, 1, 1), (1, 3, 0, 0, 1, 1),
-        (0, 1, 0, 0, 1, 1), (4, 1, 0, 0, 1, 1), (2, 1, 0, 8, 1, 1), (2, 1, 0, 0, 0, 1), (2, 1, 0, 0, 65536, 1), (2, 1, 0, 0, 1, 0),
-        (2, 1, 0, 0, 1, 25),
-    ]:
-        bits = "".join(f"{value:0{width}b}" for width, value in zip(WIDTHS, values))
-        good = is_slip(*values)
-        shown = int(bits, 2).to_bytes(5, "big").hex() + "eeee" if good else "ee" * 7
-        vector("write " + " ".join(map(str, values)), f" {0 if good else 11} {shown}")
-    for digits in [
-        "480c000401", "480c000401ee", "480c0004", "", "480c000000", "480c000019", "480c000419", "480c000400", "400c000401",
-        "e80c000401", "0000000000", "ffffffffff", "2800000401", "2800000405", "351bfffc18", "352bfffc18", "605700",
-    ]:
-        raw, values = bytes.fromhex(digits), []
-        bits = "".join(f"{byte:08b}" for byte in raw)
-        for width in WIDTHS:
-            values.append(int(bits[:width] or "0", 2))
-            bits = bits[width:]
-        good = len(raw) == 5 and is_slip(*values)
-        vector("read " + digits, "".join(f" {v}" for v in values) if good else " no slip")
+    slips_written()
+    slips_of_five_bytes()
+    slips_of_six_bytes()
+    slips_of_other_lengths()
+    # all that can be said, read in five bytes and written in six
+    for k, saying in enumerate(SAYINGS):
+        assert slip(image(FIVE_BYTES, (*saying, k % FIVE_BYTES.seats, 1 + k, 1 + k % STEPS)).hex())
+        assert write((*saying, k % SEATS, 1 + k, 1 + k % STEPS))
 
 
 def sheet(s):

@@ -1,4 +1,5 @@
-//! The nine calls and their refusals (document 01, "Calls and refusals"). A refused call changes nothing that was lent.
+//! The nine calls and their refusals (document 01, "Calls and refusals", with request 8 of document 02). A refused call
+//! changes nothing that was lent.
 
 use crate::checks::{self, Accounts, Case, CHECK_REFUSED_MOST};
 use crate::directory::{self, Record};
@@ -6,7 +7,7 @@ use crate::message::{self, Body, Message};
 use crate::room::{self, Step};
 use crate::shapes::{self, CODE_MOST};
 use crate::sheet::Sheet;
-use crate::slip::{self, Slip, SLIP_LONG};
+use crate::slip::{self, Slip, SIX_BYTES, SLIP_LONG};
 
 /// Why a call was refused, by document 01's table.
 #[derive(Clone, Copy, PartialEq, Eq, Debug)]
@@ -104,7 +105,7 @@ fn fit(room: &[u64], directory: &[Record]) -> Result<(), Refusal> {
     unless(directory::is_fit(directory), Refusal::DirectoryUnfit)
 }
 
-/// Refusal 3, for opening too: a seat above 7.
+/// Refusal 3, for opening too: a seat from 12 on.
 fn seat_number(seat: u64) -> Result<usize, Refusal> {
     unless(seat < room::SEATS as u64, Refusal::NoSuchTicket)?;
     Ok(seat as usize)
@@ -301,15 +302,12 @@ fn put_movement(step: &mut Step, accounts: Accounts, amount: u64) {
     step[room::STEP_AMOUNT] = amount;
 }
 
-/// Writes a slip into the first five bytes of a buffer.
+/// Writes a slip into the first six bytes of a buffer.
 pub fn write_slip(slip: &Slip, buffer: &mut [u8]) -> Result<(), Refusal> {
-    unless(buffer.len() >= SLIP_LONG, Refusal::SlipUnfit)?;
-    let bytes = slip.bytes().ok_or(Refusal::SlipUnfit)?;
-    buffer[..SLIP_LONG].copy_from_slice(&bytes);
-    Ok(())
+    unless(SIX_BYTES.write(slip, buffer), Refusal::SlipUnfit)
 }
 
-/// Reads a slip of exactly five bytes.
+/// Reads a slip of exactly five or exactly six bytes.
 pub fn read_slip(bytes: &[u8]) -> Result<Slip, Refusal> {
     Slip::read(bytes).ok_or(Refusal::SlipUnfit)
 }

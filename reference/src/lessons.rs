@@ -9,10 +9,11 @@ mod drafts;
 mod pokes;
 mod posts;
 mod seats;
+mod slips;
 mod spoils;
 
 use crate::directory::{self, Record};
-use crate::room::{self, OPENED, OPENING, SEATS, STEPS, SUM_MOST};
+use crate::room::{self, OPENED, OPENING, ROOM_LONG, SEATS, STEPS, SUM_MOST};
 use crate::script::Player;
 use dice::Dice;
 use drafts::Draft;
@@ -20,9 +21,9 @@ use drafts::Draft;
 /// A lesson ends before it has so many bytes.
 const BYTES_MOST: usize = 480_000;
 
-/// Numbers at and beyond the limits of document 01.
+/// Numbers at and beyond the limits of documents 01 and 02.
 const EDGES: [u64; 18] =
-    [0, 1, 2, 3, 7, 8, 24, 25, 31, 32, 65_535, 65_536, 999_999, 1_000_000, SUM_MOST, SUM_MOST + 1, 1 << 63, u64::MAX];
+    [0, 1, 2, 3, 11, 12, 24, 25, 31, 32, 65_535, 65_536, 999_999, 1_000_000, SUM_MOST, SUM_MOST + 1, 1 << 63, u64::MAX];
 
 /// What a lesson does next, by weight.
 const ACTIONS: [fn(&mut Maker); 16] = [
@@ -46,14 +47,16 @@ const ACTIONS: [fn(&mut Maker); 16] = [
 
 /// The weights of a theme: a bit of all, one full journal, sheets, rooms and tickets, money.
 const THEMES: [[u64; 16]; 5] = [
-    [22, 20, 7, 7, 5, 3, 6, 6, 5, 5, 4, 3, 6, 2, 1, 4],
-    [40, 30, 2, 2, 6, 4, 4, 2, 4, 0, 2, 1, 4, 1, 0, 3],
-    [10, 8, 32, 35, 3, 2, 2, 2, 1, 2, 1, 2, 1, 1, 0, 2],
-    [18, 8, 2, 2, 3, 5, 6, 5, 5, 9, 8, 5, 24, 5, 2, 3],
-    [30, 22, 1, 1, 5, 1, 14, 12, 6, 2, 1, 1, 4, 1, 0, 3],
+    [22, 20, 7, 7, 5, 3, 6, 6, 5, 5, 4, 6, 8, 2, 2, 4],
+    [40, 30, 2, 2, 6, 4, 4, 2, 4, 0, 2, 2, 4, 1, 0, 3],
+    [10, 8, 32, 35, 3, 2, 2, 2, 1, 2, 1, 4, 1, 1, 1, 2],
+    [18, 8, 2, 2, 3, 5, 6, 5, 5, 9, 8, 10, 24, 5, 3, 3],
+    [30, 22, 1, 1, 5, 1, 14, 12, 6, 2, 1, 2, 6, 1, 0, 3],
 ];
 const THEME_WEIGHTS: [u64; 5] = [35, 15, 20, 15, 15];
 const FULL_JOURNAL: usize = 1;
+/// So many lessons in a hundred begin with all seats open, as a full class has them.
+const CLASS_PERCENT: u64 = 6;
 
 /// The days on which lessons take place.
 const DAYS: [u64; 9] = [20240301, 20240301, 20240229, 20000101, 20991231, 20250101, 20230301, 20000229, 20260731];
@@ -86,7 +89,11 @@ pub struct Maker {
 pub fn lesson(seed: u64, calls: u64) -> Vec<u8> {
     let mut dice = Dice::new(seed);
     let theme = dice.weighed(&THEME_WEIGHTS);
-    let seats = if theme == FULL_JOURNAL { 1 } else { dice.between(1, 3) };
+    let seats = match theme {
+        FULL_JOURNAL => 1,
+        _ if dice.chance(CLASS_PERCENT) => SEATS,
+        _ => 1 + dice.place(3),
+    };
     let date = dice.pick(&DAYS);
     let mut maker = Maker {
         dice,
@@ -145,19 +152,20 @@ impl Maker {
         (number, self.seat(number)[OPENING])
     }
 
-    fn start(&mut self, seats: u64) {
+    fn start(&mut self, seats: usize) {
         self.line("forget");
         self.lay();
         self.good = self.new_directory();
         self.write_directory(&self.good.clone());
-        for _ in 0..seats {
-            let number = self.dice.below(SEATS as u64);
-            self.open(number);
+        let mut numbers: Vec<u64> = (0..SEATS as u64).collect();
+        self.dice.shuffle(&mut numbers);
+        for number in numbers.iter().take(seats) {
+            self.open(*number);
         }
     }
 
     fn lay(&mut self) {
-        self.line("lay 7384");
+        self.line(&format!("lay {}", ROOM_LONG));
         self.sent.clear();
         self.touched.clear();
     }

@@ -1,4 +1,5 @@
-//! The second engine: document 01 read anew, as functions on lent slices. The program of `main.rs` plays with it.
+//! The second engine: document 01, with request 8 of document 02, read a second time, as functions on lent slices. The
+//! program of `main.rs` plays with it.
 
 pub mod calls;
 pub mod checks;

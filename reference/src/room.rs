@@ -1,9 +1,9 @@
-//! The room (docs/LAYOUT.md): 8 seats in one slice of numbers, and when such a slice is fit.
+//! The room (docs/LAYOUT.md): 12 seats in one slice of numbers, and when such a slice is fit.
 
 use crate::shapes::{self, AMOUNT_MOST, CODE_MOST};
 use crate::slip;
 
-pub const SEATS: usize = 8;
+pub const SEATS: usize = 12;
 pub const PLACES: usize = 16;
 pub const ACCOUNTS: usize = 2 * PLACES;
 pub const STEPS: usize = 24;

@@ -15,7 +15,7 @@ const BEHIND: usize = 16;
 const NUMBERS_MOST: usize = 35;
 /// A slip's buffer has at most 8 bytes, each 170 before the call.
 const BUFFER_MOST: u64 = 8;
-const BUFFER_BYTE: u8 = 170;
+pub const BUFFER_BYTE: u8 = 170;
 
 /// How often each answer was given; how often each check was the one answered; how often `rows` listed it.
 #[derive(Clone)]
@@ -258,14 +258,7 @@ impl Player {
 
     fn write(&mut self, line: &Line, out: &mut Vec<u8>) {
         let mut buffer = buffer_of(line.number(6));
-        let slip = Slip {
-            kind: line.number(0),
-            status: line.number(1),
-            check: line.number(2),
-            seat: line.number(3),
-            opening: line.number(4),
-            step: line.number(5),
-        };
+        let slip = Slip::new([0, 1, 2, 3, 4, 5].map(|at| line.number(at)));
         let answer = calls::write_slip(&slip, &mut buffer);
         self.answer(answer.map(|()| []), out);
         put_slip(out, &buffer);

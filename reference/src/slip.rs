@@ -1,16 +1,34 @@
-//! The slip (document 01, "The slip"): 40 bits, the most significant first.
+//! The slip (document 01, "The slip"; document 02, request 8): fields of bits, the most significant first, in one of two
+//! forms. Both are read, and the length alone says which form it is; the six-byte form alone is written.
 
 use crate::checks::{CHECK_REFUSED_MOST, LIQUIDITY_ORDER, PAYMENT_ORDER, REQUEST_ORDER};
 use crate::room::{LIQUIDITY, OPENING_MOST, PAYMENT, REQUEST, SEATS, STEPS};
-
-pub const SLIP_LONG: usize = 5;
 
 pub const PDNG: u64 = 0;
 pub const ACCC: u64 = 1;
 pub const RJCT: u64 = 2;
 
-/// The bits of kind, status, check, seat, opening and step.
-const WIDTHS: [u32; 6] = [3, 2, 6, 3, 16, 10];
+/// What slips of one length look like.
+#[derive(Clone, Copy)]
+pub struct Form {
+    /// How many bytes they have.
+    pub long: usize,
+    /// The bits of kind, status, check, seat, opening and step.
+    widths: [u32; 6],
+    /// How many bits behind the step must be zero.
+    pub zero_bits: u32,
+    /// They are for seats below this.
+    pub seats: u64,
+}
+
+/// Document 01's form. Mark books hold such slips, so it keeps its eight seats and is read for good; no call writes it.
+pub const FIVE_BYTES: Form = Form { long: 5, widths: [3, 2, 6, 3, 16, 10], zero_bits: 0, seats: 8 };
+
+/// The form that is written. Seats 12 to 15 fit into its four bits and are no slip.
+pub const SIX_BYTES: Form = Form { long: 6, widths: [3, 2, 6, 4, 16, 10], zero_bits: 7, seats: SEATS as u64 };
+
+/// How many bytes a call writes.
+pub const SLIP_LONG: usize = SIX_BYTES.long;
 
 #[derive(Clone, Copy)]
 pub struct Slip {
@@ -36,40 +54,64 @@ pub fn is_result(kind: u64, status: u64, check: u64) -> bool {
 }
 
 impl Slip {
+    /// Kind, status, check, seat, opening and step.
+    pub fn new([kind, status, check, seat, opening, step]: [u64; 6]) -> Slip {
+        Slip { kind, status, check, seat, opening, step }
+    }
+
     pub fn values(&self) -> [u64; 6] {
         [self.kind, self.status, self.check, self.seat, self.opening, self.step]
     }
 
-    /// Whether there is such a slip, reachable or not.
-    fn is_one(&self) -> bool {
-        is_result(self.kind, self.status, self.check)
-            && self.seat < SEATS as u64
-            && (1..=OPENING_MOST).contains(&self.opening)
-            && (1..=STEPS as u64).contains(&self.step)
-    }
-
-    /// The five bytes of a slip; none where there is no such slip.
-    pub fn bytes(&self) -> Option<[u8; SLIP_LONG]> {
-        if !self.is_one() {
-            return None;
-        }
-        let bits = self.values().iter().zip(WIDTHS).fold(0u64, |bits, (value, width)| bits << width | value);
-        let eight = bits.to_be_bytes();
-        Some([eight[3], eight[4], eight[5], eight[6], eight[7]])
-    }
-
-    /// The slip that stands in exactly five bytes.
+    /// The slip that stands in exactly as many bytes as one of the forms has.
     pub fn read(bytes: &[u8]) -> Option<Slip> {
-        if bytes.len() != SLIP_LONG {
+        [FIVE_BYTES, SIX_BYTES].iter().find(|form| form.long == bytes.len())?.read(bytes)
+    }
+}
+
+/// The lowest bits of a number, so many of them.
+fn lowest(number: u64, bits: u32) -> u64 {
+    number & ((1 << bits) - 1)
+}
+
+impl Form {
+    /// Whether there is such a slip, reachable or not.
+    fn has(&self, slip: &Slip) -> bool {
+        is_result(slip.kind, slip.status, slip.check)
+            && slip.seat < self.seats
+            && (1..=OPENING_MOST).contains(&slip.opening)
+            && (1..=STEPS as u64).contains(&slip.step)
+    }
+
+    /// Puts six values into the first bytes of a buffer, whether or not they are a slip's: one that is above its width
+    /// runs into the fields before it.
+    pub fn put(&self, slip: &Slip, buffer: &mut [u8]) {
+        let fields = slip.values().iter().zip(self.widths).fold(0u64, |bits, (value, width)| bits << width | value);
+        let eight = (fields << self.zero_bits).to_be_bytes();
+        buffer[..self.long].copy_from_slice(&eight[eight.len() - self.long..]);
+    }
+
+    /// Writes a slip into the first bytes of a buffer; false where that is too short, or where there is no such slip.
+    pub fn write(&self, slip: &Slip, buffer: &mut [u8]) -> bool {
+        let is_written = buffer.len() >= self.long && self.has(slip);
+        if is_written {
+            self.put(slip, buffer);
+        }
+        is_written
+    }
+
+    /// The slip that stands in bytes of this form's length.
+    fn read(&self, bytes: &[u8]) -> Option<Slip> {
+        let bits = bytes.iter().fold(0u64, |bits, byte| bits << 8 | u64::from(*byte));
+        if lowest(bits, self.zero_bits) != 0 {
             return None;
         }
-        let mut rest = bytes.iter().fold(0u64, |bits, byte| bits << 8 | u64::from(*byte));
+        let mut rest = bits >> self.zero_bits;
         let mut values = [0; 6];
-        for (value, width) in values.iter_mut().zip(WIDTHS).rev() {
-            *value = rest & ((1 << width) - 1);
+        for (value, width) in values.iter_mut().zip(self.widths).rev() {
+            *value = lowest(rest, width);
             rest >>= width;
         }
-        let [kind, status, check, seat, opening, step] = values;
-        Some(Slip { kind, status, check, seat, opening, step }).filter(Slip::is_one)
+        Some(Slip::new(values)).filter(|slip| self.has(slip))
     }
 }

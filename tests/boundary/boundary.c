@@ -1,5 +1,6 @@
 /*
- * Calls the static library from C. Plays the eleven cases of document 01, then brings about each refusal, 1 to 12, and what stands just beside it.
+ * Calls the static library from C. Plays the eleven cases of document 01 and every call in seats 8 to 11, then brings about each refusal, 1 to 12,
+ * and what stands just beside it.
  * A line for each check; the last line counts them, and the exit status is 0 where none is wrong.
  * What is wanted is written here by hand, slips too (`slip_bytes` packs them anew): nothing of the library is used to judge the library.
  */
@@ -11,7 +12,9 @@
 #include <string.h>
 
 #define RECORD 4
-#define SEAT_NUMBERS (DAMVURIT_ROOM_SIZE / 8)
+#define SEAT_NUMBERS (DAMVURIT_ROOM_SIZE / DAMVURIT_SEATS)
+#define EIGHT_SEATS_NUMBERS (8 * SEAT_NUMBERS)
+#define STEPS 24
 #define UNTOUCHED_BYTE 0xAA
 #define UNTOUCHED_NUMBER UINT64_C(0xAAAAAAAAAAAAAAAA)
 #define HIGHEST UINT64_C(1000000000000000)
@@ -126,12 +129,12 @@ static void pacs028(char digit, char original) {
                 digit, original, original);
 }
 
-/* ---- Slips. The buffer has two bytes more than a slip, which no call may touch. */
+/* ---- Slips. The buffer has two bytes more than a slip that is written, which no call may touch. */
 
 enum { PACS008 = 1, CAMT050 = 2, PACS028 = 3 };
 enum { PDNG = 0, ACCC = 1, RJCT = 2 };
 
-static uint8_t slip[7];
+static uint8_t slip[DAMVURIT_SLIP_SIZE + 2];
 
 static void clear_slip(void) { memset(slip, UNTOUCHED_BYTE, sizeof slip); }
 
@@ -141,18 +144,27 @@ static int slip_stays(void) {
     return 1;
 }
 
-/* The 40 bits of a slip, most significant first: kind 3, status 2, check 6, seat 3, opening 16, step 10. */
-static void slip_bytes(uint64_t kind, uint64_t status, uint64_t check, uint64_t step, uint8_t bytes[5]) {
-    uint64_t bits = kind << 37 | status << 35 | check << 29 | seat << 26 | opening << 10 | step;
-    for (int i = 0; i < 5; i++) bytes[i] = (uint8_t)(bits >> (32 - 8 * i));
+/* The 41 bits of a slip of the first opening, most significant first: kind 3, status 2, check 6, seat 4, opening 16, step 10; then seven zeros. */
+static void slip_bytes(uint64_t kind, uint64_t status, uint64_t check, uint64_t at, uint64_t step, uint8_t bytes[DAMVURIT_SLIP_SIZE]) {
+    uint64_t bits = kind << 45 | status << 43 | check << 37 | at << 33 | opening << 17 | step << 7;
+    for (int i = 0; i < DAMVURIT_SLIP_SIZE; i++) bytes[i] = (uint8_t)(bits >> (40 - 8 * i));
 }
 
-static int slip_is(uint64_t kind, uint64_t status, uint64_t check, uint64_t step) {
+/* The buffer has these six bytes, and what is after them was not touched. */
+static int slip_has(const uint8_t bytes[DAMVURIT_SLIP_SIZE]) {
     uint8_t want[sizeof slip];
-    slip_bytes(kind, status, check, step, want);
-    memset(want + 5, UNTOUCHED_BYTE, sizeof want - 5);
+    memset(want, UNTOUCHED_BYTE, sizeof want);
+    memcpy(want, bytes, DAMVURIT_SLIP_SIZE);
     return memcmp(slip, want, sizeof slip) == 0;
 }
+
+static int slip_in_seat(uint64_t kind, uint64_t status, uint64_t check, uint64_t at, uint64_t step) {
+    uint8_t want[DAMVURIT_SLIP_SIZE];
+    slip_bytes(kind, status, check, at, step, want);
+    return slip_has(want);
+}
+
+static int slip_is(uint64_t kind, uint64_t status, uint64_t check, uint64_t step) { return slip_in_seat(kind, status, check, seat, step); }
 
 /* The sheet that was written last, submitted: with a directory and so many bytes of the buffer, or as most messages are. */
 static uint64_t submitted_with(const uint64_t *dir, size_t d, uint64_t sender, uint64_t date, size_t l) {
@@ -166,7 +178,7 @@ static uint64_t submitted(uint64_t sender, uint64_t date) { return submitted_wit
 /* A message that is taken: one step more, with this slip. */
 static void taken(uint64_t sender, uint64_t kind, uint64_t status, uint64_t check, uint64_t step, const char *what) {
     same(submitted(sender, TODAY), 0, what);
-    checked(slip_is(kind, status, check, step), "       its slip, and the bytes behind it");
+    checked(slip_is(kind, status, check, step), "       its slip, and the bytes after it");
 }
 
 static void not_taken(uint64_t got, uint64_t want, const char *what) {
@@ -300,19 +312,35 @@ static void case_7(void) {
     taken(300001, PACS028, PDNG, 10, 1, "case 7: the same pacs.028 fails check 10");
 }
 
-static const uint8_t slip_of_case_8[5] = {0x48, 0x0C, 0x00, 0x04, 0x01};
+static const uint8_t slip_of_case_8[DAMVURIT_SLIP_SIZE] = {0x48, 0x06, 0x00, 0x02, 0x00, 0x80};
+static const uint8_t five_bytes_of_case_8[DAMVURIT_FIVE_BYTE_SLIP_SIZE] = {0x48, 0x0C, 0x00, 0x04, 0x01};
+
+/* Case 8's slip, written into a buffer of so many bytes. */
+static void slip_written(size_t l, const char *what) {
+    clear_slip();
+    same(damvurit_write_slip(CAMT050, ACCC, 0, 3, 1, 1, slip, l), 0, what);
+    checked(slip_has(slip_of_case_8), "       its bytes, and those after it");
+}
+
+/* Bytes that are read as a slip of an accepted camt.050. */
+static void slip_read(const uint8_t *bytes, size_t l, uint64_t at, uint64_t opened_as, uint64_t step, const char *what) {
+    const uint64_t values[6] = {CAMT050, ACCC, 0, at, opened_as, step};
+    clear_out();
+    same(damvurit_read_slip(bytes, l, out), 0, what);
+    checked(memcmp(out, values, sizeof values) == 0 && out[6] == UNTOUCHED_NUMBER, "       its six numbers");
+}
 
 static void case_8(void) {
-    static const uint64_t values[6] = {CAMT050, ACCC, 0, 3, 1, 1};
+    static const uint8_t and_a_zero[DAMVURIT_SLIP_SIZE] = {0x48, 0x0C, 0x00, 0x04, 0x01, 0x00};
     begin();
     moves('1', "1.00", ACCC, 0, 1, "case 8: a camt.050 in seat 3");
-    checked(memcmp(slip, slip_of_case_8, 5) == 0, "case 8: its slip is 48 0C 00 04 01");
-    clear_slip();
-    same(damvurit_write_slip(CAMT050, ACCC, 0, 3, 1, 1, slip, sizeof slip), 0, "case 8: the slip, written");
-    checked(memcmp(slip, slip_of_case_8, 5) == 0 && slip[5] == UNTOUCHED_BYTE && slip[6] == UNTOUCHED_BYTE, "       its bytes, and those behind it");
-    clear_out();
-    same(damvurit_read_slip(slip_of_case_8, 5, out), 0, "case 8: the slip, read");
-    checked(memcmp(out, values, sizeof values) == 0 && out[6] == UNTOUCHED_NUMBER, "       its six numbers");
+    checked(slip_has(slip_of_case_8), "case 8: its slip is 48 06 00 02 00 80");
+    slip_written(6, "case 8: the slip, written into six bytes");
+    slip_written(7, "case 8: the slip, written into seven bytes");
+    slip_written(8, "case 8: the slip, written into eight bytes");
+    slip_read(LENT(slip_of_case_8), 3, 1, 1, "case 8: the slip, read");
+    slip_read(LENT(five_bytes_of_case_8), 3, 1, 1, "case 8: 48 0C 00 04 01 of a mark book, read");
+    slip_read(LENT(and_a_zero), 6, 2, 2, "case 8: with a zero byte it is a slip of six bytes, which says something else");
 }
 
 static void case_9(void) {
@@ -342,8 +370,8 @@ static void case_10(void) {
 static void full(void) {
     unsigned done = 0;
     begin();
-    for (int i = 0; i < 24; i++) done += set_limits(0, NO_LPO) == 0;
-    same(done, 24, "24 steps");
+    for (int i = 0; i < STEPS; i++) done += set_limits(0, NO_LPO) == 0;
+    same(done, STEPS, "24 steps");
 }
 
 static void case_11(void) {
@@ -355,7 +383,56 @@ static void case_11(void) {
     taken(300001, CAMT050, ACCC, 0, 24, "case 11: the same submit as step 24");
 }
 
+/* ---- Seats 8 to 11, which six bytes alone can name. */
+
+static uint64_t submitted_in(uint64_t at) {
+    clear_slip();
+    camt050(300001, '1', MORNING, "1.00");
+    return damvurit_submit(LENT(room), LENT(directory), at, opening, 300001, TODAY, sheet, sheet_long, LENT(slip));
+}
+
+/* Every call in a seat, from its opening to its closing. */
+static void plays_in(uint64_t at) {
+    static const uint64_t want[7] = {50000, 49900, 100, 0, 0, 0, NO_LPO};
+    char what[40];
+    snprintf(what, sizeof what, "seat %" PRIu64 ": opened", at);
+    same(damvurit_open(LENT(room), LENT(directory), at, LENT(sums)), with(0, opening), what);
+    same(submitted_in(at), 0, "       a camt.050");
+    checked(slip_in_seat(CAMT050, ACCC, 0, at, 1), "       its slip, and the bytes after it");
+    slip_read(slip, DAMVURIT_SLIP_SIZE, at, opening, 1, "       the slip, read");
+    same(read_with(LENT(directory), at, opening, 300001, 1), 0, "       the account, read");
+    checked(out_is(want), "       its seven numbers");
+    same(damvurit_set(LENT(room), LENT(directory), at, opening, 300001, 1, 1, 0, 0, 0), 0, "       the account, set");
+    same(damvurit_take_back(LENT(room), at, opening), 0, "       the set, taken back");
+    same(damvurit_close(LENT(room), at, opening), 0, "       closed");
+}
+
+/* Seats 0 to 3 end in the same three bits as 8 to 11: one of them is open meanwhile and stays as it is. */
+static void high_seats(void) {
+    begin();
+    for (uint64_t at = 8; at < DAMVURIT_SEATS; at++) plays_in(at);
+    holds(1, 50000, 50000, 0, 0, NO_LPO, "seat 3 stays as it is");
+}
+
 /* ---- The refusals. */
+
+/* A room of eight seats; each call but for the length is good. */
+static void eight_seats(void) {
+    begin();
+    same(set_limits(0, NO_LPO), 0, "1: a step to take back");
+    keep_room();
+    refused(damvurit_lay_out(room, EIGHT_SEATS_NUMBERS), 1, "1: laying out a room of eight seats");
+    refused(damvurit_open(room, EIGHT_SEATS_NUMBERS, LENT(directory), 0, LENT(sums)), 1, "1: opening in a room of eight seats");
+    refused(damvurit_set(room, EIGHT_SEATS_NUMBERS, LENT(directory), seat, opening, 300001, 1, 0, 0, 0, 0), 1, "1: setting in it");
+    camt050(300001, '1', MORNING, "1.00");
+    clear_slip();
+    not_taken(damvurit_submit(room, EIGHT_SEATS_NUMBERS, LENT(directory), seat, opening, 300001, TODAY, sheet, sheet_long, LENT(slip)), 1,
+              "1: submitting in it");
+    refused(damvurit_take_back(room, EIGHT_SEATS_NUMBERS, seat, opening), 1, "1: taking back in it");
+    clear_out();
+    not_read(damvurit_read(room, EIGHT_SEATS_NUMBERS, LENT(directory), seat, opening, 300001, 1, out), 1, "1: reading in it");
+    refused(damvurit_close(room, EIGHT_SEATS_NUMBERS, seat, opening), 1, "1: closing in it");
+}
 
 static void refusal_1(void) {
     begin();
@@ -363,11 +440,11 @@ static void refusal_1(void) {
     refused(damvurit_lay_out(room, COUNT(room) - 1), 1, "1: laying out a room that is too short");
     refused(damvurit_lay_out(NULL, 0), 1, "1: laying out no room");
     refused(damvurit_close(room, COUNT(room) - 1, seat, opening), 1, "1: closing in a room that is too short");
-    room[SEAT_NUMBERS * 5 + 2] = 1; /* a step in a closed seat elsewhere */
+    room[SEAT_NUMBERS * 11 + 2] = 1; /* a step in a closed seat elsewhere */
     keep_room();
     refused(opened(), 1, "1: opening in an unfit room");
     refused(closed(), 1, "1: closing");
-    refused(damvurit_set(LENT(room), NULL, 0, 8, 0, 0, 0, 2, 2, 0, 0), 1, "1: setting, with all else bad too");
+    refused(damvurit_set(LENT(room), NULL, 0, DAMVURIT_SEATS, 0, 0, 0, 2, 2, 0, 0), 1, "1: setting, with all else bad too");
     camt050(300001, '1', MORNING, "1.00");
     not_taken(submitted(300001, TODAY), 1, "1: submitting");
     refused(taken_back(), 1, "1: taking back");
@@ -406,7 +483,7 @@ static void refusal_2(void) {
     keep_room();
     same(damvurit_open(LENT(room), seventeen, 16 * RECORD, 0, (const uint64_t[32]){0}, 32), with(0, 1), "2: 16 records are not refused");
     keep_room();
-    refused(damvurit_set(LENT(room), NULL, 0, 8, 0, 0, 0, 2, 2, 0, 0), 2, "2: setting, with all behind it bad too");
+    refused(damvurit_set(LENT(room), NULL, 0, DAMVURIT_SEATS, 0, 0, 0, 2, 2, 0, 0), 2, "2: setting, with all behind it bad too");
     camt050(300001, '1', MORNING, "1.00");
     not_taken(submitted_with(NULL, 0, 300001, TODAY, sizeof slip), 2, "2: submitting");
     not_read(read_with(NULL, 0, seat, opening, 300001, 1), 2, "2: reading");
@@ -415,12 +492,15 @@ static void refusal_2(void) {
 static void refusal_3(void) {
     begin();
     keep_room();
-    refused(damvurit_open(LENT(room), LENT(directory), 8, LENT(sums)), 3, "3: opening seat 8");
-    refused(damvurit_close(LENT(room), 8, opening), 3, "3: closing seat 8");
+    refused(damvurit_open(LENT(room), LENT(directory), 12, LENT(sums)), 3, "3: opening seat 12");
+    refused(damvurit_open(LENT(room), LENT(directory), 16, LENT(sums)), 3, "3: opening seat 16");
+    refused(damvurit_close(LENT(room), 12, opening), 3, "3: closing seat 12");
+    refused(damvurit_take_back(LENT(room), 12, opening), 3, "3: taking back in seat 12");
+    not_taken(submitted_in(12), 3, "3: submitting in seat 12");
     refused(damvurit_close(LENT(room), 4, 0), 3, "3: closing a closed seat");
     refused(damvurit_take_back(LENT(room), seat, UINT64_MAX), 3, "3: taking back with another opening number");
     refused(damvurit_set(LENT(room), LENT(directory), UINT64_MAX, opening, 0, 0, 2, 2, 0, 0), 3, "3: setting, with all behind it bad too");
-    not_read(read_with(LENT(directory), 8, opening, 300001, 1), 3, "3: reading in seat 8");
+    not_read(read_with(LENT(directory), 12, opening, 300001, 1), 3, "3: reading in seat 12");
     not_read(read_with(LENT(directory), seat, 0, 300001, 1), 3, "3: reading with opening 0");
 }
 
@@ -514,27 +594,60 @@ static void not_written(uint64_t kind, uint64_t status, uint64_t check, uint64_t
     checked(slip_stays(), "       the buffer stays");
 }
 
-static void refusal_11(void) {
-    static const uint8_t check_1[5] = {0x50, 0x2C, 0x00, 0x04, 0x01}; /* camt.050, RJCT with check 1 */
-    uint8_t six[6] = {0};
+static void no_slip_submitted(void) {
     full();
     camt050(300001, '1', MORNING, "1.00");
     not_taken(submitted_with(LENT(directory), 300001, TODAY, 4), 11, "11: submitting with a buffer of four bytes and 24 steps");
+    not_taken(submitted_with(LENT(directory), 300001, TODAY, 5), 11, "11: submitting with a buffer of five bytes and 24 steps");
     not_taken(damvurit_submit(LENT(room), LENT(directory), seat, opening, 300001, TODAY, sheet, sheet_long, NULL, 0), 11,
               "11: submitting with no buffer");
+    begin();
+    not_taken(submitted_with(LENT(directory), 300001, TODAY, 5), 11, "11: submitting with a buffer of five bytes");
+    same(submitted_with(LENT(directory), 300001, TODAY, 6), 0, "11: six bytes are not refused");
+    checked(slip_is(CAMT050, ACCC, 0, 1), "       its slip, and the bytes after it");
+}
+
+static void no_slip_written(void) {
     not_written(CAMT050, ACCC, 0, 3, 1, 1, 4, "11: writing into four bytes");
+    not_written(CAMT050, ACCC, 0, 3, 1, 1, 5, "11: writing into five bytes");
     not_written(4, ACCC, 0, 3, 1, 1, sizeof slip, "11: writing kind 4");
     not_written(CAMT050, PDNG, 0, 3, 1, 1, sizeof slip, "11: writing camt.050 with PDNG");
     not_written(CAMT050, RJCT, 25, 3, 1, 1, sizeof slip, "11: writing camt.050 with check 25");
-    not_written(CAMT050, ACCC, 0, 8, 1, 1, sizeof slip, "11: writing seat 8");
+    for (uint64_t at = 12; at <= 16; at++) not_written(CAMT050, ACCC, 0, at, 1, 1, sizeof slip, "11: writing a seat from 12 on");
     not_written(CAMT050, ACCC, 0, 3, 0, 1, sizeof slip, "11: writing opening 0");
     not_written(CAMT050, ACCC, 0, 3, 65536, 1, sizeof slip, "11: writing opening 65536");
     not_written(CAMT050, ACCC, 0, 3, 1, 25, sizeof slip, "11: writing step 25");
-    memcpy(six, slip_of_case_8, 5);
+}
+
+/* Case 8's six bytes with a one among the last seven bits, each by itself. */
+static void no_slip_with_a_bit(void) {
+    for (int bit = 0; bit < 7; bit++) {
+        uint8_t bytes[DAMVURIT_SLIP_SIZE];
+        memcpy(bytes, slip_of_case_8, sizeof bytes);
+        bytes[5] |= (uint8_t)(1 << bit);
+        not_slip(LENT(bytes), "11: reading a slip with a one among the last seven bits");
+    }
+}
+
+/* Six bytes with a number that fits into four bits and is no seat. */
+static void no_slip_of_a_seat(uint64_t at) {
+    uint8_t bytes[DAMVURIT_SLIP_SIZE];
+    slip_bytes(CAMT050, ACCC, 0, at, 1, bytes);
+    not_slip(LENT(bytes), "11: reading a slip of a seat from 12 on");
+}
+
+static void no_slip_read(void) {
+    static const uint8_t check_1[DAMVURIT_SLIP_SIZE] = {0x50, 0x26, 0x00, 0x02, 0x00, 0x80}; /* camt.050, RJCT with check 1 */
+    static const uint8_t five_with_check_1[DAMVURIT_FIVE_BYTE_SLIP_SIZE] = {0x50, 0x2C, 0x00, 0x04, 0x01};
+    static const uint8_t seven[] = {0x48, 0x06, 0x00, 0x02, 0x00, 0x80, 0x00};
     not_slip(NULL, 0, "11: reading nothing");
     not_slip(slip_of_case_8, 4, "11: reading four bytes");
-    not_slip(six, 6, "11: reading six bytes");
-    not_slip(check_1, 5, "11: reading a slip with check 1");
+    not_slip(slip_of_case_8, 5, "11: reading five bytes of a slip of six");
+    not_slip(LENT(seven), "11: reading seven bytes");
+    not_slip(LENT(check_1), "11: reading a slip with check 1");
+    not_slip(LENT(five_with_check_1), "11: reading a slip of five bytes with check 1");
+    for (uint64_t at = 12; at <= 15; at++) no_slip_of_a_seat(at);
+    no_slip_with_a_bit();
 }
 
 /* Each kind of record, by what becomes of its camt.050. */
@@ -573,6 +686,8 @@ int main(void) {
     case_9();
     case_10();
     case_11();
+    high_seats();
+    eight_seats();
     refusal_1();
     refusal_2();
     refusal_3();
@@ -580,7 +695,9 @@ int main(void) {
     refusal_6();
     refusals_7_and_8();
     refusals_9_and_10();
-    refusal_11();
+    no_slip_submitted();
+    no_slip_written();
+    no_slip_read();
     refusal_12();
     printf("%u right, %u wrong\n", right, wrong);
     return wrong != 0;

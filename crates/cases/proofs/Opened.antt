@@ -12,7 +12,7 @@ use Rattle.shape.specs.Stored.{identifierOf, sameUetr, fourFrom, identifierText
 use Rattle.remainder.specs.Remainder.{isPlain, whole, remainderOf, written}
 use Rattle.table.specs.Checks.{orderOf}
 use Rattle.slip.specs.Answers.{writeAfter, canWrite, holdsSlip}
-use Rattle.slip.specs.Image.{slipOf as slipSlipOf, slipIn, slipNumber, image, fieldsOf as slipFieldsOf}
+use Rattle.slip.specs.Image.{slipOf as slipSlipOf, slipNumber, image}
 use Rattle.slip.specs.Meaning.{sayings, isSlip, kindNumber, statusNumber}
 use Rattle.sheet.specs.Answer.{run, readingOf}
 use Rattle.sheet.specs.Grammar.{isNameByte}
@@ -71,7 +71,7 @@ unfolding orderOf
 table-opened = tt
 
 unfoldable pub slip-opened : Unit {0}
-unfolding writeAfter canWrite holdsSlip slipSlipOf slipIn slipNumber image slipFieldsOf sayings isSlip kindNumber statusNumber
+unfolding writeAfter canWrite holdsSlip slipSlipOf slipNumber image sayings isSlip kindNumber statusNumber
 slip-opened = tt
 
 unfoldable pub sheet-opened : Unit {0}

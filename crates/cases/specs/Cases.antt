@@ -1,5 +1,5 @@
 -- The cases of document 01, "Cases proved together": one table, and one statement over it. A case is a list of calls, from a room that was laid
--- out, each with its whole answer: number, detail and values, and the slip buffer behind it. The calls and their answers are those of the
+-- out, each with its whole answer: number, detail and values, and the slip buffer after it. The calls and their answers are those of the
 -- demands, and so of the contracts in `centre`; the statement is proved by working every call out (`proofs/Computed.antt`).
 -- Sums are in kopecks. Seat 3 is opened first in every case, with opening number 1, and every message comes on 2024-03-01.
 use mathlib.Core.Bool.{true, false}
@@ -14,7 +14,7 @@ use Rattle.table.specs.declared.Kind.the-variants.{Pacs008, Camt050, Pacs028}
 use Rattle.slip.specs.declared.Slip.{Slip}
 use Rattle.slip.specs.declared.Status.{Status}
 use Rattle.slip.specs.declared.Status.the-variants.{Pdng, Accc, Rjct}
-use Rattle.slip.specs.Meaning.{kindNumber, statusNumber}
+use Rattle.slip.specs.Meaning.{slipLong, kindNumber, statusNumber}
 use Rattle.slip.specs.Image.{image}
 use Rattle.directory.specs.declared.Participant.{Participant}
 use Rattle.directory.specs.declared.Kind.the-variants.{Owner, Direct, Indirect}
@@ -63,17 +63,17 @@ begin = opening 3 (50000 ∷ 10000 ∷ 0 ∷ 0 ∷ 0 ∷ 0 ∷ 0 ∷ 0 ∷ [])
 abbrev pub ticket : Ticket
 ticket = record { seat = 3; opening = 1 }
 
--- a case: these calls behind that opening
+-- a case: these calls after that opening
 abbrev pub fromStart : List Line → Case
 fromStart lines = record {
   calls = begin ∷ map (λ (line : Line). line .0) lines;
   answers = values (1 ∷ []) ∷ map (λ (line : Line). line .1) lines;
 }
 
--- a message comes with a slip buffer of five bytes. It becomes a step, and the slip says which and how it ended; or it is refused, and the
+-- a message comes with a slip buffer of six bytes. It becomes a step, and the slip says which and how it ended; or it is refused, and the
 -- buffer stays
 abbrev pub buffer : List ℕ
-buffer = replicate 5 0xFF
+buffer = replicate slipLong 0xFF
 
 abbrev pub from : ℕ → List ℕ → Call
 from sender sheet = under ticket (submit sender 20240301 sheet buffer)
@@ -137,7 +137,7 @@ case2 =
     ∷ fromStart (sets 10000 None gives values [] ∷ moves "1" "400.01" gives rejected 22 2 ∷ [])
     ∷ []
 
--- 3. With an LPO of 400.00 that much can be moved, and behind it nothing. With an LPO of 0 nothing at all, by a check of its own
+-- 3. With an LPO of 400.00 that much can be moved, and after it nothing. With an LPO of 0 nothing at all, by a check of its own
 abbrev pub case3 : List Case
 case3 =
     fromStart (
@@ -183,13 +183,26 @@ case7 =
     ∷ [])
     ∷ []
 
--- 8. The five bytes of a slip: as a message gets them, as they are written and as they are read
+-- 8. The bytes of a slip: six as a message gets them, as they are written and as they are read; five as they are read, which mean the same. A
+-- buffer of five bytes is too short. Five bytes with a zero after them mean something else: the length alone says the form
+abbrev pub five : List ℕ
+five = 0x48 ∷ 0x0C ∷ 0x00 ∷ 0x04 ∷ 0x01 ∷ []
+
+abbrev pub six : List ℕ
+six = 0x48 ∷ 0x06 ∷ 0x00 ∷ 0x02 ∷ 0x00 ∷ 0x80 ∷ []
+
 abbrev pub case8 : List Case
 case8 =
     fromStart (
-    moves "1" "1.00" gives (done [], 0x48 ∷ 0x0C ∷ 0x00 ∷ 0x04 ∷ 0x01 ∷ [])
-    ∷ writing (slip Camt050 Accc 0 1) buffer gives (done [], 0x48 ∷ 0x0C ∷ 0x00 ∷ 0x04 ∷ 0x01 ∷ [])
-    ∷ reading (0x48 ∷ 0x0C ∷ 0x00 ∷ 0x04 ∷ 0x01 ∷ []) gives values (2 ∷ 1 ∷ 0 ∷ 3 ∷ 1 ∷ 1 ∷ [])
+    moves "1" "1.00" gives (done [], six)
+    ∷ writing (slip Camt050 Accc 0 1) buffer gives (done [], six)
+    ∷ reading six gives values (2 ∷ 1 ∷ 0 ∷ 3 ∷ 1 ∷ 1 ∷ [])
+    ∷ reading five gives values (2 ∷ 1 ∷ 0 ∷ 3 ∷ 1 ∷ 1 ∷ [])
+    ∷ [])
+    ∷ fromStart (
+    under ticket (submit 300001 20240301 (camt050 "300001" "1" morning "1.00") five) gives (refused 11, five)
+    ∷ writing (slip Camt050 Accc 0 1) five gives (refused 11, five)
+    ∷ reading (five ++ 0x00 ∷ []) gives values (2 ∷ 1 ∷ 0 ∷ 6 ∷ 2 ∷ 2 ∷ [])
     ∷ [])
     ∷ []
 

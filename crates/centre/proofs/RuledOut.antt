@@ -11,9 +11,10 @@ use lib.ListN.{length, getD, drop, replicate}
 use borrow.Author.Tests.{eqb-true, eqb-false, leb-true, not-false}
 use Rattle.shape.proofs.Tests.{and-left, and-right}
 use Rattle.slip.specs.declared.Slip.{Slip}
-use Rattle.slip.specs.Meaning.{slipLong, openings, steps, isSlip}
+use Rattle.slip.specs.Meaning.{slipLong, openings, steps, fiveBytes, sixBytes, isSlip}
 use Rattle.slip.specs.Image.{slipOf}
 use Rattle.slip.specs.Answers.{canWrite, holdsSlip}
+use Rattle.slip.proofs.Exact.{holds-long}
 use Rattle.directory.specs.declared.Participant.{Participant}
 use Rattle.directory.specs.Directory.{found, isFit, ownerFound}
 use Rattle.layout.specs.declared.rows.Head.{Head}
@@ -211,8 +212,8 @@ module _ (slip : Slip) (buffer : List ℕ) where
   unfolding told slips.writeTold canWrite
   write-passed e = not-false (canWrite slip buffer) (all-passed ((not (canWrite slip buffer), refused 11) ∷ []) (done []) (told Done) refl e .0 .0)
 
-  pub writes-into-four-bytes : length buffer < slipLong → told Done ≡ slips.writeTold slip buffer → ⊥
-  writes-into-four-bytes h e =
+  pub writes-into-five-bytes : length buffer < slipLong → told Done ≡ slips.writeTold slip buffer → ⊥
+  writes-into-five-bytes h e =
       let long : slipLong ≤ length buffer = leb-true slipLong (length buffer) (and-left (leb slipLong (length buffer)) (isSlip slip) (write-passed e)) in
       omega arith
 
@@ -221,18 +222,14 @@ module _ (slip : Slip) (buffer : List ℕ) where
 
 -- read a slip
 module _ (bytes : List ℕ) (slip : Slip) where
-  slip-passed : told (Says slip) ≡ slips.readTold bytes
-      → ((eqb (length bytes) slipLong && isSlip (slipOf bytes)) ≡ true) × (told (Says slip) ≡ done (slipValues (slipOf bytes)))
-  unfolding told slips.readTold holdsSlip
+  slip-passed : told (Says slip) ≡ slips.readTold bytes → (holdsSlip bytes ≡ true) × (told (Says slip) ≡ done (slipValues (slipOf bytes)))
+  unfolding told slips.readTold
   slip-passed e =
       let tests = all-passed ((not (holdsSlip bytes), refused 11) ∷ []) (done (slipValues (slipOf bytes))) (told (Says slip)) refl e in
       (not-false (holdsSlip bytes) (tests .0 .0), tests .1)
 
-  pub reads-six-bytes : length bytes ≡ 6 → told (Says slip) ≡ slips.readTold bytes → ⊥
-  reads-six-bytes h e =
-      let five : length bytes ≡ slipLong =
-      eqb-true (length bytes) slipLong (and-left (eqb (length bytes) slipLong) (isSlip (slipOf bytes)) (slip-passed e .0)) in
-      omega arith
+  pub reads-another-length : (length bytes ≡ fiveBytes .long → ⊥) → (length bytes ≡ sixBytes .long → ⊥) → told (Says slip) ≡ slips.readTold bytes → ⊥
+  reads-another-length five six e = holds-long bytes (slip-passed e .0) five six
 
   pub reads-other-values : (slip ≡ slipOf bytes → ⊥) → told (Says slip) ≡ slips.readTold bytes → ⊥
   unfolding told slipValues

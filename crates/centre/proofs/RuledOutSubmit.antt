@@ -1,6 +1,6 @@
 -- What the contract of submit rules out: that it refuses by 12 a message that fails no check or records it as RJCT, that it is done without a step
--- or without a slip, and that the slip it writes has another step number than the step. Slips whose values fit their fields have the same five bytes
--- only where they are the same.
+-- or without a slip, and that the slip it writes has another step number than the step. Slips whose values fit their fields have the same bytes only
+-- where they are the same.
 -- Assumes nothing.
 use mathlib.Core.Path.{_≡_, refl, sym, ap, _∙_}
 use mathlib.Core.Bool.{Bool, true, false, _&&_, _||_, not, cond, false≢true}
@@ -12,17 +12,15 @@ use lib.Dec.{leb, ltb, eqb}
 use lib.ListN.{length, getD, take, drop}
 use borrow.Author.Tests.{eqb-false, leb-true, ltb-false, not-false}
 use Rattle.shape.specs.Dates.{isDate}
-use Rattle.shape.proofs.Bits.{Small, cut-joined, joined-cut, joined-small}
 use Rattle.shape.proofs.Tests.{and-left, and-right}
 use Rattle.slip.specs.declared.Slip.{Slip}
 use Rattle.table.specs.declared.Kind.{Kind}
 use Rattle.table.specs.declared.Kind.the-variants.{Pacs008, Camt050, Pacs028}
 use Rattle.slip.specs.declared.Status.the-variants.{Rjct}
-use Rattle.slip.specs.Meaning.{slipLong, steps, isSlip, statusNumber}
-use Rattle.slip.specs.Image.{fieldsOf, byteWidths, values, slipNumber, image, slipIn, slipOf as slipRead}
+use Rattle.slip.specs.Meaning.{slipLong, steps, sixBytes, isSlip, statusNumber}
+use Rattle.slip.specs.Image.{Fits, image, slipOf as slipRead}
 use Rattle.slip.specs.Answers.{canWrite}
-use Rattle.slip.proofs.Exact.{image-first}
-use Rattle.slip.proofs.Small.{slip-small}
+use Rattle.slip.proofs.Exact.{image-first, image-back, written-fits}
 use Rattle.message.specs.declared.Message.{Message}
 use Rattle.message.specs.declared.Answer.{Answer}
 use Rattle.message.specs.declared.Answer.the-variants.{IllFormed, BadField, Good}
@@ -58,27 +56,12 @@ use Rattle.centre.proofs.Judged.{not-one, not-two, slip-asks}
 use Rattle.centre.proofs.Passes.{AllPass, all-passed, step-counted}
 use Rattle.centre.proofs.Submitted.{Passed, can-judge, ticket-seat}
 
--- what a slip says can be read back from its bytes where each value fits its field
-number-read : (f : Slip) → Small (fieldsOf f) → slipIn (slipNumber f) ≡ f
-unfolding slipIn slipNumber fieldsOf
-number-read f small = ap (λ (fs : List (ℕ × ℕ)). slipFrom (values fs)) (cut-joined 0 (fieldsOf f) small)
-  where
-    slipFrom : List ℕ → Slip
-    slipFrom v = record { kind = getD v 0 0; status = getD v 1 0; check = getD v 2 0; seat = getD v 3 0; opening = getD v 4 0; step = getD v 5 0 }
-
-number-low : (f : Slip) → Small (fieldsOf f) → slipNumber f < 2 ^ 40
-unfolding slipNumber fieldsOf
-number-low f small = joined-small (fieldsOf f) small
-
-bytes-read : (f : Slip) → Small (fieldsOf f) → slipRead (image f) ≡ f
-unfolding slipRead image
-bytes-read f small = ap slipIn (joined-cut byteWidths (slipNumber f) (number-low f small)) ∙ number-read f small
-
 -- the slip of a step with another number: its values fit their fields too
-other-small : (ticket : Ticket) (m n : ℕ) (x : Step) → Small (fieldsOf (slipOf ticket m x)) → n ≤ steps → Small (fieldsOf (slipOf ticket n x))
-unfolding fieldsOf slipOf
-other-small ticket m n x q low =
-    (q .0, (q .1 .0, (q .1 .1 .0, (q .1 .1 .1 .0, (q .1 .1 .1 .1 .0, (omega (arith, low), tt))))))
+other-fits : (ticket : Ticket) (m n : ℕ) (x : Step) → Fits (sixBytes .widths) (slipOf ticket m x) → n ≤ steps
+    → Fits (sixBytes .widths) (slipOf ticket n x)
+unfolding slipOf
+other-fits ticket m n x q low =
+    record { kind = q .kind; status = q .status; check = q .check; seat = q .seat; opening = q .opening; step = omega (arith, low) }
 
 -- two slips of a step with the same bytes have the same number
 step-number : (ticket : Ticket) (n : ℕ) (x : Step) → slipOf ticket n x .step ≡ n
@@ -90,9 +73,9 @@ same-number : (ticket : Ticket) (m n : ℕ) (x : Step) (rest : List ℕ) → isS
 same-number ticket m n x rest good low e =
     let f : Slip = slipOf ticket n x in
     let g : Slip = slipOf ticket m x in
-    let small : Small (fieldsOf g) = slip-small g good in
+    let fits : Fits (sixBytes .widths) g = written-fits g good in
     let same : image f ≡ image g = sym (image-first f rest) ∙ ap (λ (t : List ℕ). take slipLong t) e ∙ image-first g rest in
-    let whole : f ≡ g = sym (bytes-read f (other-small ticket m n x small low)) ∙ ap slipRead same ∙ bytes-read g small in
+    let whole : f ≡ g = sym (image-back f (other-fits ticket m n x fits low)) ∙ ap slipRead same ∙ image-back g fits in
     sym (step-number ticket n x) ∙ ap (λ (z : Slip). z .step) whole ∙ step-number ticket m x
 
 -- an answer that is neither 7 nor 8 is a message

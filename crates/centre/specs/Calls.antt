@@ -31,7 +31,7 @@ use Rattle.seat.specs.Calls.{
 use Rattle.centre.specs.declared.Ticket.{Ticket}
 use Rattle.centre.specs.Answers.{Told, done, refused, first, behind}
 
--- 3: the seat is above 7; or, but for opening, it is closed or its opening number differs
+-- 3: the seat is above 11; or, but for opening, it is closed or its opening number differs
 unfoldable pub noSeat : ℕ → Bool
 noSeat seat = leb seats seat
 

@@ -10,7 +10,7 @@ ghost use Rattle.slip.specs.Answers.{writeAfter};
 ghost use Rattle.centre.specs.Answers.{told};
 ghost use Rattle.centre.specs.Slips.{writeTold, readTold};
 
-// Writes a slip into the first five bytes of a buffer.
+// Writes a slip into the first six bytes of a buffer.
 pub fn write_slip(s: Slip, buffer: &mut [u8]) -> Answer
     ensures { λ r. ⌜ told r ≡ writeTold s (now (buffer .entry)) ⌝ }
     ensures { λ _. ⌜ now (buffer .exit) ≡ writeAfter s (now (buffer .entry)) ⌝ }

@@ -34,7 +34,7 @@ use Rattle.script.specs.declared.Word.the-variants.{
 }
 use Rattle.script.specs.declared.Line.{Line}
 use Rattle.class.specs.Ends.{behindOf}
-use Rattle.class.specs.Digits.{inkIn, tenDigits, fiveBytes}
+use Rattle.class.specs.Digits.{inkIn, wholeBytes, bytesIn}
 
 -- the values of a line, from 0 on
 abbrev pub valueAt : Line → ℕ → ℕ
@@ -60,9 +60,9 @@ wishIn line = record { out = eqb (valueAt line 4) 1; into = eqb (valueAt line 5)
 abbrev pub restIn : Line → List ℕ → List ℕ
 restIn line text = behindOf text (line .rest)
 
--- a slip as digits: 11 where they are not ten
+-- a slip as digits: 11 where they are not those of whole bytes, else what is read of these
 unfoldable pub slipTold : List ℕ → Told
-slipTold digits = first ((not (tenDigits (inkIn digits)), refused 11) ∷ []) (slips.readTold (fiveBytes (inkIn digits)))
+slipTold digits = first ((not (wholeBytes (inkIn digits)), refused 11) ∷ []) (slips.readTold (bytesIn (inkIn digits)))
 
 -- the answer to a line by its word
 unfoldable pub wordTold : Word → List Participant → Line → List ℕ → List ℕ → List ℕ → Told

@@ -1,7 +1,8 @@
 // The call that a line makes, with the line's values in the order in which they stand there.
-use crate::digits::five_bytes;
+use crate::digits::first_bytes;
 use crate::digits::ink_in;
-use crate::digits::ten_digits;
+use crate::digits::twelve_as_bytes;
+use crate::digits::whole_bytes;
 use crate::ends::behind;
 use centre::Answer;
 use centre::Ticket;
@@ -109,16 +110,17 @@ fn read_by(room: &[u64], g: Gathered, line: Line) -> Answer
     read_with(room, g, ticket(line), values[2], values[3])
 }
 
-// Reads the slip that digits write. Other digits than ten are no slip's.
+// Reads the slip that digits write. What is not the digits of whole bytes is no slip's.
 fn slip_by(digits: &[u8]) -> Answer
     ensures { λ r. ⌜ told r ≡ slipTold (now (digits .entry)) ⌝ }
 {
     let ink = ink_in(digits);
-    if !ten_digits(ink) {
+    if !whole_bytes(ink) {
         return Answer::NoSlip;
     }
-    let bytes = five_bytes(ink);
-    read_slip(&bytes)
+    let bytes = twelve_as_bytes(ink);
+    let long = ink.count / 2;
+    read_slip(first_bytes(&bytes, long))
 }
 
 // Makes the call of a line whose text this is, with the list of banks and a buffer for the slip. A line that is bad, or that makes no call,

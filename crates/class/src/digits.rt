@@ -2,13 +2,15 @@
 use shape::byte::is_digit;
 use slip::SLIP_LONG;
 ghost use mathlib.Core.Path.{_≡_};
-ghost use Rattle.class.specs.Digits.{isHexDigit, digitOf, byteOf, noInk, inked, inkIn, tenDigits, fiveBytes};
+ghost use lib.ListN.{take};
+ghost use Rattle.class.specs.Digits.{isHexDigit, digitOf, byteOf, noInk, inked, inkIn, wholeBytes, twelveAsBytes};
+ghost use Rattle.shape.specs.Bytes.{every};
 
-// How many digits a slip has, two for each byte.
+// How many digits a slip has at most, two for each byte.
 const DIGITS: usize = 2 * SLIP_LONG;
 
-// The bytes of a text that are no blanks: the first ten, and how many there are. An eleventh is counted, so that the text is seen to be too
-// long; behind it nothing changes any more.
+// The bytes of a text that are no blanks: the first twelve, and how many there are. A thirteenth is counted, so that the text is seen to be
+// too long; after it nothing changes any more.
 pub struct Ink {
     pub count: usize,
     pub bytes: [u8; DIGITS],
@@ -62,25 +64,43 @@ fn is_hex_digit(b: u8) -> bool
     is_digit(b) | ((b'A' <= b) & (b <= b'F')) | ((b'a' <= b) & (b <= b'f'))
 }
 
-// Whether a text is ten digits.
-pub fn ten_digits(ink: Ink) -> bool
-    ensures { λ r. ⌜ r ≡ tenDigits ink ⌝ }
+// The first bytes of a text, so many of them, or all where there are fewer.
+pub fn first_bytes(s: &[u8], count: usize) -> &[u8]
+    ensures { λ r. ⌜ now r ≡ take count (now (s .entry)) ⌝ }
 {
-    let s = ink.bytes;
-    (ink.count == DIGITS)
-        & is_hex_digit(s[0])
-        & is_hex_digit(s[1])
-        & is_hex_digit(s[2])
-        & is_hex_digit(s[3])
-        & is_hex_digit(s[4])
-        & is_hex_digit(s[5])
-        & is_hex_digit(s[6])
-        & is_hex_digit(s[7])
-        & is_hex_digit(s[8])
-        & is_hex_digit(s[9])
+    if s.len() < count {
+        return s;
+    }
+    &s[..count]
 }
 
-// What a digit stands for. Letters, small or not, are 1 to 6 behind a multiple of sixteen.
+// Whether a text is hexadecimal digits and nothing else.
+fn all_digits(s: &[u8]) -> bool
+    ensures { λ r. ⌜ r ≡ every isHexDigit (now (s .entry)) ⌝ }
+{
+    let mut i = 0;
+    while i < s.len() {
+        if !is_hex_digit(s[i]) {
+            return false;
+        }
+        i += 1;
+    }
+    true
+}
+
+// Whether a text is the digits of whole bytes, no more of them than a slip has.
+pub fn whole_bytes(ink: Ink) -> bool
+    ensures { λ r. ⌜ r ≡ wholeBytes ink ⌝ }
+{
+    let s = ink.bytes;
+    let count = ink.count;
+    if DIGITS < count {
+        return false;
+    }
+    (count % 2 == 0) & all_digits(first_bytes(&s, count))
+}
+
+// What a digit stands for. Letters, small or not, are 1 to 6 above a multiple of sixteen.
 fn digit(b: u8) -> u8
     ensures { λ r. ⌜ r ≡ digitOf b ⌝ }
 {
@@ -97,9 +117,9 @@ fn byte(high: u8, low: u8) -> u8
     ((digit(high) as u64 * 16 + digit(low) as u64) % 256) as u8
 }
 
-// The five bytes that ten digits write.
-pub fn five_bytes(ink: Ink) -> [u8; SLIP_LONG]
-    ensures { λ r. ⌜ r ≡ fiveBytes ink ⌝ }
+// The six bytes that twelve digits write. Of a shorter text only those count that it has digits for.
+pub fn twelve_as_bytes(ink: Ink) -> [u8; SLIP_LONG]
+    ensures { λ r. ⌜ r ≡ twelveAsBytes ink ⌝ }
 {
     let s = ink.bytes;
     [
@@ -108,5 +128,6 @@ pub fn five_bytes(ink: Ink) -> [u8; SLIP_LONG]
         byte(s[4], s[5]),
         byte(s[6], s[7]),
         byte(s[8], s[9]),
+        byte(s[10], s[11]),
     ]
 }

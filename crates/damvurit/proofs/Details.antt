@@ -13,7 +13,7 @@ use lib.ListN.{length}
 use Rattle.shape.specs.Dates.{isDate}
 use Rattle.table.specs.declared.Kind.{Kind}
 use Rattle.slip.specs.declared.Slip.{Slip}
-use Rattle.slip.specs.Meaning.{seats, openings, steps}
+use Rattle.slip.specs.Meaning.{slipLong, seats, openings, steps}
 use Rattle.sheet.specs.Answer.{Reading, accepted, refused as refusedAt, readingOf}
 use Rattle.sheet.specs.Right.{Right, broken, long}
 use Rattle.sheet.proofs.Reading.{reading-right}
@@ -163,7 +163,7 @@ submit-low dir ticket sender today sheet slip room =
     let check = verdictOn (caseOf dir sender today) received s in
     simp detail-of-line
     (among-lines (not (roomFits room)) (not (isFit dir)) (ticketBad ticket room) (not (leb sender codeMost && isDate today))
-    (ltb (length slip) 5) (eqb (headOf s .steps) steps) (eqb (numberOf received .0) 7) (eqb (numberOf received .0) 8) (notTaken check)
+    (ltb (length slip) slipLong) (eqb (headOf s .steps) steps) (eqb (numberOf received .0) 7) (eqb (numberOf received .0) 8) (notTaken check)
     (numberOf received .1) (numberOf received .1) check (received-low sheet) (received-low sheet) (not-taken-low check))
 
 -- the opening number that a table of refusals lets through, where the room is fit and there is such a seat

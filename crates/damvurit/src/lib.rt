@@ -157,7 +157,7 @@ pub extern "C" fn damvurit_read(
     result_of(answer)
 }
 
-// Writes a slip into the first five bytes of a buffer.
+// Writes a slip into the first six bytes of a buffer.
 // In C: uint64_t damvurit_write_slip(uint64_t kind, uint64_t status, uint64_t check, uint64_t seat, uint64_t opening, uint64_t step,
 // uint8_t *slip, size_t l).
 #[no_mangle]

@@ -4,19 +4,20 @@
 use mathlib.Core.Path.{_≡_, refl, ap, _∙_}
 use mathlib.Core.Bool.{Bool, true, false, cond}
 use mathlib.Core.List.{List}
-use Prim.Native.Nat.{ℕ, zero, suc, _<_}
+use Prim.Native.Nat.{ℕ, suc, _<_}
 use native.Mathlib.Omega.{arith}
 use lib.Dec.{eqb}
 use borrow.Author.Tests.{eqb-false}
+use Rattle.slip.specs.Meaning.{seats}
 use Rattle.directory.specs.declared.Participant.{Participant}
 use Rattle.layout.specs.declared.rows.Head.{Head}
 use Rattle.layout.specs.Parts.{part}
 use Rattle.layout.specs.Rows.{headIn}
-use Rattle.layout.specs.Seat.{headOf, seatOf}
+use Rattle.layout.specs.Seat.{seatLong, roomLong, seatFrom, headOf, seatOf}
 use Rattle.journal.specs.Working.{backed}
 use Rattle.seat.specs.Fit.{seatFits}
 use Rattle.seat.proofs.Answered.{back-done}
-use Rattle.seat.proofs.Opened.{opened-head}
+use Rattle.seat.proofs.Opened.{opened-head, zeros-within}
 use Rattle.seat.proofs.Kept.{closed-head}
 use Rattle.strike.specs.Machine.{Deed, quiet, step, back, fresh}
 use Rattle.centre.specs.Answers.{isDone}
@@ -126,14 +127,6 @@ module _ (dir : List Participant) (s : List ℕ) where
       ap (λ (t : List ℕ). headOf t .steps) (left-done call (was .0)) ∙ fresh-made call (was .1)
 
 -- nor has a seat of a new room
-pub new-steps : (k : ℕ) → k < 8 → headOf (seatOf newRoom k) .steps ≡ 0
+pub new-steps : (k : ℕ) → k < seats → headOf (seatOf newRoom k) .steps ≡ 0
 unfolding headOf headIn seatOf part
-new-steps zero h = refl
-new-steps (suc zero) h = refl
-new-steps (suc (suc zero)) h = refl
-new-steps (suc (suc (suc zero))) h = refl
-new-steps (suc (suc (suc (suc zero)))) h = refl
-new-steps (suc (suc (suc (suc (suc zero))))) h = refl
-new-steps (suc (suc (suc (suc (suc (suc zero)))))) h = refl
-new-steps (suc (suc (suc (suc (suc (suc (suc zero))))))) h = refl
-new-steps (suc (suc (suc (suc (suc (suc (suc (suc k)))))))) h = absurd (omega arith)
+new-steps k h = ap (λ (s : List ℕ). headOf s .steps) (zeros-within roomLong (seatFrom k) seatLong (omega arith))

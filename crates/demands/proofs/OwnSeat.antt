@@ -187,7 +187,7 @@ module _ (dir : List Participant) (room : List ℕ) (fit : roomFits room ≡ tru
   own-room (writing slip buffer) k e = absurd (no-seat k e)
   own-room (reading bytes) k e = absurd (no-seat k e)
 
-  -- a call that names a seat above 7 is refused, by 2 or 3
+  -- a call that names a seat above 11 is refused, by 2 or 3
   act-refused : (ticket : Ticket) (act : Act) → noSeat (ticket .seat) ≡ true → isDone (actTold dir ticket act room) ≡ false
   unfolding actTold closeTold setTold submitTold backTold readTold ticketBad
   act-refused ticket close out = rw (fit, out) refused-three

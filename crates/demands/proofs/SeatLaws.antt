@@ -50,7 +50,7 @@ module _ (dir : List Participant) where
     alone-seat : seatOf (withSeat newRoom k part) k ≡ part
     alone-seat = seat-got newRoom k part (room-long newRoom room-fits) h (fit-long part fit)
 
-  -- a call for a seat is for one of the eight
+  -- a call for a seat is for one of the room's
   within : (call : Call) (k : ℕ) → seatFor call ≡ some k → k < seats
   within call k e = own-room dir newRoom room-fits call k e .0
 

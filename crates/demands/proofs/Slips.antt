@@ -6,19 +6,18 @@ use mathlib.Core.Bool.{Bool, true, false, not, cond}
 use mathlib.Core.List.{List, [], _++_}
 use Prim.Native.Nat.{ℕ}
 use native.Mathlib.Omega.{arith}
-use lib.Dec.{leb, ltb, eqb}
 use lib.ListN.{length, take, drop}
-use borrow.Author.Tests.{eqb-true}
-use Rattle.shape.specs.Bytes.{every}
-use Rattle.shape.proofs.Tests.{and-left, and-right}
+use Rattle.slip.specs.declared.Form.{Form}
+use Rattle.slip.specs.declared.Form.the-variants.{SixBytes}
 use Rattle.slip.specs.declared.Slip.{Slip}
-use Rattle.slip.specs.Meaning.{slipLong, isSlip}
-use Rattle.slip.specs.Image.{image, slipOf}
+use Rattle.slip.specs.Meaning.{slipLong, measures, formOf, isSlipIn, isSlip}
+use Rattle.slip.specs.Image.{slipFrom, imageIn, image, slipOf}
 use Rattle.slip.specs.Answers.{canWrite, writeAfter, holdsSlip}
-use Rattle.slip.proofs.Exact.{image-back, bytes-back, image-holds, image-first, writable}
-use Rattle.centre.specs.Answers.{done, refused, slipValues}
+use Rattle.slip.proofs.Small.{five-in-six}
+use Rattle.slip.proofs.Exact.{Shows, image-long, long-form, shown-holds, shown-back, holds-shown, image-six, image-first, writable}
+use Rattle.centre.specs.Answers.{Told, done, refused, slipValues}
 use Rattle.centre.specs.Slips.{writeTold, readTold}
-use Rattle.demands.specs.Messages.{Slips}
+use Rattle.demands.specs.Messages.{areBytes, OneImage, Slips}
 
 -- a call that knows one refusal is done where its test holds
 one-row : (t : Bool) (values : List ℕ) → cond (not t) (refused 11) (done values) .number ≡ 0 → t ≡ true
@@ -42,29 +41,54 @@ written-image : (slip : Slip) (buffer : List ℕ) → canWrite slip buffer ≡ t
 unfolding writeAfter
 written-image slip buffer e = rw e (image-first slip (drop slipLong buffer))
 
--- the bytes of a slip are read as what it says
-pub image-read : (slip : Slip) → isSlip slip ≡ true → readTold (image slip) ≡ done (slipValues slip)
-image-read slip e = read-done (image slip) (image-holds slip e) ∙ ap (λ (x : Slip). done (slipValues x)) (image-back slip e)
+-- the bytes that a slip is in a form are read as what it says, and so is what is written
+shown-read : (form : Form) (slip : Slip) → isSlipIn (measures form) slip ≡ true → readTold (imageIn (measures form) slip) ≡ done (slipValues slip)
+shown-read form slip e =
+    read-done (imageIn (measures form) slip) (shown-holds form slip e)
+    ∙ ap (λ (x : Slip). done (slipValues x)) (shown-back form slip e)
 
--- bytes that hold a slip
-holds-parts : (bytes : List ℕ) → holdsSlip bytes ≡ true → (length bytes ≡ slipLong) × (isSlip (slipOf bytes) ≡ true)
-unfolding holdsSlip
-holds-parts bytes e = (
-  eqb-true (length bytes) slipLong (and-left (eqb (length bytes) slipLong) (isSlip (slipOf bytes)) e),
-  and-right (eqb (length bytes) slipLong) (isSlip (slipOf bytes)) e,
-)
+pub image-read : (slip : Slip) → isSlip slip ≡ true → readTold (image slip) ≡ done (slipValues slip)
+unfolding isSlip
+image-read slip e = ap readTold (image-six slip) ∙ shown-read SixBytes slip e
+
+-- what is told of a slip says all of it
+same-values : (x y : Slip) → done (slipValues x) ≡ done (slipValues y) → x ≡ y
+unfolding slipValues
+same-values x y e = ap (λ (t : Told). slipFrom (t .values)) e
+
+-- bytes that are read as a slip of a form, and are as many as it has, are that slip's
+module _ (form : Form) (slip : Slip) (bytes : List ℕ) (small : areBytes bytes ≡ true) (long : length bytes ≡ measures form .long)
+    (read : readTold bytes ≡ done (slipValues slip)) where
+  holds : holdsSlip bytes ≡ true
+  holds = read-holds bytes (ap (λ (t : Told). t .number) read)
+
+  same-slip : slipOf bytes ≡ slip
+  same-slip = same-values (slipOf bytes) slip (sym (read-done bytes holds) ∙ read)
+
+  shown : Shows bytes (slipOf bytes)
+  shown = holds-shown bytes small holds
+
+  same-form : shown .form ≡ form
+  same-form =
+      let shown-long : length bytes ≡ measures (shown .form) .long = ap length (shown .same) ∙ image-long (shown .form) (slipOf bytes) in
+      sym (ap formOf shown-long ∙ long-form (shown .form)) ∙ ap formOf long ∙ long-form form
+
+  only-one : bytes ≡ imageIn (measures form) slip
+  only-one =
+      shown .same
+      ∙ ap (λ (x : Form). imageIn (measures x) (slipOf bytes)) same-form
+      ∙ ap (imageIn (measures form)) same-slip
 
 pub slips : Slips
 slips = record {
   back = λ (slip : Slip) (buffer : List ℕ) (e : writeTold slip buffer .number ≡ 0).
       let can : canWrite slip buffer ≡ true = written-can slip buffer e in
       ap readTold (written-image slip buffer can) ∙ image-read slip (writable slip buffer can);
-  only = λ (bytes : List ℕ) (e : readTold bytes .number ≡ 0) (small : every (λ (b : ℕ). ltb b 256) bytes ≡ true).
+  one = λ (form : Form) (slip : Slip) (e : isSlipIn (measures form) slip ≡ true).
+      record { long = image-long form slip; readBack = shown-read form slip e; only = only-one form slip };
+  both = five-in-six;
+  only = λ (bytes : List ℕ) (e : readTold bytes .number ≡ 0) (small : areBytes bytes ≡ true).
       let holds : holdsSlip bytes ≡ true = read-holds bytes e in
-      record {
-        slip = slipOf bytes;
-        sound = holds-parts bytes holds .1;
-        values = read-done bytes holds;
-        same = sym (bytes-back bytes small (holds-parts bytes holds .0));
-      };
+      let shown = holds-shown bytes small holds in
+      record { slip = slipOf bytes; form = shown .form; sound = shown .said; values = read-done bytes holds; same = shown .same };
 }

@@ -6,7 +6,7 @@ use mathlib.Core.List.{List, [], _∷_, _++_}
 use mathlib.Core.Path.{_≡_}
 use Prim.Native.Nat.{ℕ, suc, _≤_, _<_}
 use lib.Dec.{ltb, eqb}
-use lib.ListN.{take, drop}
+use lib.ListN.{length, take, drop}
 use Rattle.shape.specs.Bytes.{every}
 use Rattle.shape.specs.declared.value.Value.the-variants.{Of}
 use Rattle.table.specs.declared.Kind.{Kind}
@@ -15,8 +15,10 @@ use Rattle.table.specs.Checks.{orderOf}
 use Rattle.slip.specs.declared.Slip.{Slip}
 use Rattle.slip.specs.declared.Status.{Status}
 use Rattle.slip.specs.declared.Status.the-variants.{Pdng, Accc, Rjct}
-use Rattle.slip.specs.Meaning.{steps, slipLong, kindNumber, statusNumber, isSlip}
-use Rattle.slip.specs.Image.{image}
+use Rattle.slip.specs.declared.Form.{Form}
+use Rattle.slip.specs.declared.Form.the-variants.{FiveBytes, SixBytes}
+use Rattle.slip.specs.Meaning.{steps, slipLong, kindNumber, statusNumber, measures, isSlipIn, isSlip}
+use Rattle.slip.specs.Image.{imageIn, image}
 use Rattle.slip.specs.Answers.{writeAfter}
 use Rattle.message.specs.declared.Message.{Message}
 use Rattle.message.specs.declared.Answer.{Answer}
@@ -200,18 +202,33 @@ module _ (dir : List Participant) (ticket : Ticket) (sender today : ℕ) (sheet 
     pub good : received ≡ Good message
     pub judged : Judged message
 
--- bytes that are read as a slip are the five bytes of that slip and of no other
+-- every element is a byte
+abbrev pub areBytes : List ℕ → Bool
+areBytes bytes = every (λ (b : ℕ). ltb b 256) bytes
+
+-- a slip of a form is read from its bytes there, and from no others of their length
+pub record OneImage (form : Form) (slip : Slip) : Type 0 where
+  pub long : length (imageIn (measures form) slip) ≡ measures form .long
+  pub readBack : readTold (imageIn (measures form) slip) ≡ done (slipValues slip)
+  pub only : (bytes : List ℕ) → areBytes bytes ≡ true → length bytes ≡ measures form .long → readTold bytes ≡ done (slipValues slip)
+      → bytes ≡ imageIn (measures form) slip
+
+-- bytes that are read as a slip are what that slip is in one of the two forms
 pub record ReadAs (bytes : List ℕ) : Type 0 where
   pub slip : Slip
-  pub sound : isSlip slip ≡ true
+  pub form : Form
+  pub sound : isSlipIn (measures form) slip ≡ true
   pub values : readTold bytes ≡ done (slipValues slip)
-  pub same : bytes ≡ image slip
+  pub same : bytes ≡ imageIn (measures form) slip
 
--- slips written are read back the same, and no other bytes are read as a slip
+-- slips written are read back the same; a slip of a form has one image in it, five bytes or six, and what five can say six can; no other bytes
+-- are read as a slip
 pub record Slips : Type 0 where
   pub back : (slip : Slip) (buffer : List ℕ) → writeTold slip buffer .number ≡ 0
       → readTold (take slipLong (writeAfter slip buffer)) ≡ done (slipValues slip)
-  pub only : (bytes : List ℕ) → readTold bytes .number ≡ 0 → every (λ (b : ℕ). ltb b 256) bytes ≡ true → ReadAs bytes
+  pub one : (form : Form) (slip : Slip) → isSlipIn (measures form) slip ≡ true → OneImage form slip
+  pub both : (slip : Slip) → isSlipIn (measures FiveBytes) slip ≡ true → isSlipIn (measures SixBytes) slip ≡ true
+  pub only : (bytes : List ℕ) → readTold bytes .number ≡ 0 → areBytes bytes ≡ true → ReadAs bytes
 
 abbrev pub Demand2 : Type 0
 Demand2 =

@@ -92,7 +92,7 @@ module _ (dir : List Participant) (room : List ℕ) where
   unfoldable pub directoryRefused : Call → Bool
   directoryRefused call = ofOpening (λ seat sums. not (isFit dir)) call || ofActs (λ ticket act. takesDirectory act && not (isFit dir)) call
 
-  -- 3: seat above 7; or, but for opening, seat closed or opening number differs
+  -- 3: seat above 11; or, but for opening, seat closed or opening number differs
   unfoldable pub ticketRefused : Call → Bool
   ticketRefused call = ofOpening (λ seat sums. noSeat seat) call || ofActs (λ ticket act. ticketBad ticket room) call
 

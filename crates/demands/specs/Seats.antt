@@ -1,7 +1,7 @@
 -- Demand 3, over demand 2's calls. For any list of calls with any arguments on any seats, from a room laid out once, with one directory, and any
 -- chosen seat: strike out all calls for other seats, then each successful take-back with the step it took back and every call between them; run
 -- from a new room, the calls left give that seat the same stored numbers and each of them its same answer and slip. The striking stands in
--- `strike`; here is the machine that it is about. Slip calls, and calls that name a seat above 7, belong to no seat.
+-- `strike`; here is the machine that it is about. Slip calls, and calls that name a seat above 11, belong to no seat.
 use mathlib.Core.Bool.{cond}
 use mathlib.Core.List.{List, []}
 use mathlib.Core.Option.{Option, none, some}

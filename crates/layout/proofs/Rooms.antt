@@ -1,4 +1,4 @@
--- The laws of a room: a seat that was put is found again, the other seats are as they were, and a room is its eight seats.
+-- The laws of a room: a seat that was put is found again, the other seats are as they were, and a room is its seats.
 -- Assumes nothing.
 use mathlib.Core.Path.{_≡_, sym, ap, _∙_}
 use mathlib.Core.List.{List, _++_}

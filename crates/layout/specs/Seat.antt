@@ -1,4 +1,4 @@
--- A seat as numbers: its head, the accounts of 16 places, two for each, and 24 steps. A room is 8 seats, one behind the other.
+-- A seat as numbers: its head, the accounts of 16 places, two for each, and 24 steps. A room is 12 seats, one after the other.
 -- Account 1 of place p is the account 2 p, account 2 the account 2 p + 1.
 use mathlib.Core.List.{List}
 use Prim.Native.Nat.{ℕ, _+_, _*_}

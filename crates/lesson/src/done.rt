@@ -284,7 +284,7 @@ fn put_submitted(bytes: [u8; SLIP_LONG], g: Gathered, before: Sight, after: Sigh
 // A line that names a bank, or empties the list or the room.
 fn put_listed(word: Word, line: Line) {
     match word {
-        Word::Room => put(b"the room is laid out: eight closed seats, none of them opened so far"),
+        Word::Room => put(b"the room is laid out: twelve closed seats, none of them opened so far"),
         Word::Nobody => put(b"the list of banks is empty"),
         Word::Owner => put_owner(line),
         Word::Direct => put_bank(line, b", direct branch of "),

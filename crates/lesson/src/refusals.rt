@@ -22,8 +22,10 @@ pub fn is_refusal(answer: Answer) -> bool {
 // 3: what is wrong with a ticket, or with the seat of an opening.
 fn put_no_ticket(word: Word) {
     match word {
-        Word::Open => put(b"refused 3: there are only the seats 0 to 7"),
-        _ => put(b"refused 3: the seat is above 7 or closed, or its opening number is another one"),
+        Word::Open => put(b"refused 3: there are only the seats 0 to 11"),
+        _ => put(
+            b"refused 3: the seat is above 11 or closed, or its opening number is another one",
+        ),
     }
 }
 
@@ -70,7 +72,7 @@ fn put_plain(answer: Answer) {
         ),
         Answer::JournalFull => put(b"refused 9: the journal is full, it holds 24 steps"),
         Answer::NothingToTakeBack => put(b"refused 10: there is no step to take back"),
-        Answer::NoSlip => put(b"refused 11: these are not the five bytes of a slip"),
+        Answer::NoSlip => put(b"refused 11: these are not the bytes of a slip, six or five"),
         _ => {}
     }
 }

@@ -112,11 +112,12 @@ fn put_byte(b: u8) {
     put_half(b);
 }
 
-// The five bytes of a slip.
+// The bytes of a slip.
 pub fn put_bytes(slip: [u8; SLIP_LONG]) {
     put_byte(slip[0]);
     put_byte(slip[1]);
     put_byte(slip[2]);
     put_byte(slip[3]);
     put_byte(slip[4]);
+    put_byte(slip[5]);
 }

@@ -108,7 +108,8 @@ zeros-part m w r =
     ∙ ap (λ (t : List ℕ). take w t) (sym (replicate-append-replicate w r 0))
     ∙ take-at (replicate w 0) (replicate r 0) w (length-replicate w 0)
 
-zeros-within : (n m w : ℕ) → m + w ≤ n → part (replicate n 0) m w ≡ replicate w 0
+-- any part of zeros is zeros
+pub zeros-within : (n m w : ℕ) → m + w ≤ n → part (replicate n 0) m w ≡ replicate w 0
 zeros-within n m w h =
     let all : m + (w + (n - (m + w))) ≡ n = omega arith in
     subst (λ (k : ℕ). part (replicate k 0) m w ≡ replicate w 0) all (zeros-part m w (n - (m + w)))

@@ -14,9 +14,9 @@ use Rattle.shape.specs.Bytes.{every}
 use Rattle.shape.proofs.Bits.{widths, Small, cut-joined, joined-cut, joined-small}
 use Rattle.shape.proofs.Tests.{and-left, and-right}
 use Rattle.slip.specs.declared.Slip.{Slip}
-use Rattle.slip.specs.Meaning.{Form, isSlipIn}
+use Rattle.slip.specs.Meaning.{Measures, isSlipIn}
 use Rattle.slip.specs.Image.{byteWide, byteFields, values, spareWidths, spareFields, widthsIn, fieldsIn}
-use Rattle.slip.specs.Image.{numberIn, bytesIn, imageIn, slipFrom, heldIn, spareZero, bytesNumber}
+use Rattle.slip.specs.Image.{Fits, numberIn, bytesIn, imageIn, slipFrom, heldIn, spareZero, bytesNumber}
 use Rattle.slip.specs.Answers.{holdsIn}
 use Rattle.slip.proofs.Small.{Sound, slip-fits, fields-small}
 
@@ -69,7 +69,7 @@ spare-cut (suc k) n e =
 both : (t u : Bool) → t ≡ true → u ≡ true → (t && u) ≡ true
 both t u p q = rw (p, q)
 
-module _ (form : Form) (sound : Sound form) where
+module _ (form : Measures) (sound : Sound form) where
   -- the bits of a slip are those of its bytes
   all-bits : total (widthsIn form) ≡ total (replicate (form .long) byteWide)
   all-bits = sound .filled ∙ sym (bytes-total (form .long))
@@ -78,30 +78,30 @@ module _ (form : Form) (sound : Sound form) where
   fields-widths s = ap (λ (ws : List ℕ). take 6 (widthsIn form) ++ ws) (spare-widths (form .spare))
 
   -- what is joined is cut out again
-  fields-back : (s : Slip) → isSlipIn form s ≡ true → cut (widthsIn form) (numberIn form s) ≡ fieldsIn form s
-  fields-back s e =
+  fields-back : (s : Slip) → Fits (form .widths) s → cut (widthsIn form) (numberIn form s) ≡ fieldsIn form s
+  fields-back s fits =
       subst (λ (ws : List ℕ). cut ws (numberIn form s) ≡ fieldsIn form s) (fields-widths s)
-      (cut-joined 0 (fieldsIn form s) (fields-small form s (slip-fits form sound s e)))
+      (cut-joined 0 (fieldsIn form s) (fields-small form s fits))
 
-  number-small : (s : Slip) → isSlipIn form s ≡ true → numberIn form s < 2 ^ total (replicate (form .long) byteWide)
-  number-small s e =
+  number-small : (s : Slip) → Fits (form .widths) s → numberIn form s < 2 ^ total (replicate (form .long) byteWide)
+  number-small s fits =
       subst (λ (k : ℕ). numberIn form s < 2 ^ k) (ap total (fields-widths s) ∙ all-bits)
-      (joined-small (fieldsIn form s) (fields-small form s (slip-fits form sound s e)))
+      (joined-small (fieldsIn form s) (fields-small form s fits))
 
   -- the bytes of a number hold it
   number-held : (n : ℕ) → n < 2 ^ total (replicate (form .long) byteWide) → bytesNumber (bytesIn form n) ≡ n
   number-held n h = ap (joined 0) (cut-fields (form .long) n) ∙ joined-cut (replicate (form .long) byteWide) n h
 
-  -- the bytes of a slip hold its values
-  pub image-back : (f : Slip) → isSlipIn form f ≡ true → heldIn form (bytesNumber (imageIn form f)) ≡ f
-  image-back f e =
-      ap (heldIn form) (number-held (numberIn form f) (number-small f e))
-      ∙ ap (λ (fs : List (ℕ × ℕ)). slipFrom (values fs)) (fields-back f e)
+  -- the bytes of values that fit their fields hold them, be they a slip's or not
+  pub image-back : (f : Slip) → Fits (form .widths) f → heldIn form (bytesNumber (imageIn form f)) ≡ f
+  image-back f fits =
+      ap (heldIn form) (number-held (numberIn form f) (number-small f fits))
+      ∙ ap (λ (fs : List (ℕ × ℕ)). slipFrom (values fs)) (fields-back f fits)
 
-  image-zeros : (f : Slip) → isSlipIn form f ≡ true → spareZero form (bytesNumber (imageIn form f)) ≡ true
-  image-zeros f e =
-      ap (spareZero form) (number-held (numberIn form f) (number-small f e))
-      ∙ ap (λ (fs : List (ℕ × ℕ)). every (λ (v : ℕ). eqb v 0) (values (drop 6 fs))) (fields-back f e)
+  image-zeros : (f : Slip) → Fits (form .widths) f → spareZero form (bytesNumber (imageIn form f)) ≡ true
+  image-zeros f fits =
+      ap (spareZero form) (number-held (numberIn form f) (number-small f fits))
+      ∙ ap (λ (fs : List (ℕ × ℕ)). every (λ (v : ℕ). eqb v 0) (values (drop 6 fs))) (fields-back f fits)
       ∙ spare-zeros (form .spare)
 
   -- a number with zero bits after its values is the number of its values
@@ -123,18 +123,19 @@ module _ (form : Form) (sound : Sound form) where
       ∙ byte-values s
 
   -- bytes with zero bits after their values are the bytes of these values
-  pub bytes-back : (s : List ℕ) → areBytes s ≡ true → length s ≡ form .long → spareZero form (bytesNumber s) ≡ true
+  bytes-back : (s : List ℕ) → areBytes s ≡ true → length s ≡ form .long → spareZero form (bytesNumber s) ≡ true
       → imageIn form (heldIn form (bytesNumber s)) ≡ s
   bytes-back s e l z = ap (bytesIn form) (number-back (bytesNumber s) (bytes-low s e l) z) ∙ bytes-cut s e l
 
   -- the bytes of a slip are a slip
   pub image-holds : (f : Slip) → isSlipIn form f ≡ true → holdsIn form (imageIn form f) ≡ true
   image-holds f e =
+      let fits = slip-fits form sound f e in
       let n = bytesNumber (imageIn form f) in
       both (eqb (length (imageIn form f)) (form .long)) (spareZero form n && isSlipIn form (heldIn form n))
       (eq-eqb (length (imageIn form f)) (form .long) (cut-length (form .long) (numberIn form f)))
-      (both (spareZero form n) (isSlipIn form (heldIn form n)) (image-zeros f e)
-      (subst (λ (v : Slip). isSlipIn form v ≡ true) (sym (image-back f e)) e))
+      (both (spareZero form n) (isSlipIn form (heldIn form n)) (image-zeros f fits)
+      (subst (λ (v : Slip). isSlipIn form v ≡ true) (sym (image-back f fits)) e))
 
   -- the theorem: bytes hold f exactly when f is a slip and they are its image
   pub holds-exactly : (s : List ℕ) (f : Slip) → areBytes s ≡ true
@@ -150,6 +151,6 @@ module _ (form : Form) (sound : Sound form) where
         ),
     λ h. (
       subst (λ (t : List ℕ). holdsIn form t ≡ true) (sym (h .1)) (image-holds f (h .0)),
-      ap (λ (t : List ℕ). heldIn form (bytesNumber t)) (h .1) ∙ image-back f (h .0),
+      ap (λ (t : List ℕ). heldIn form (bytesNumber t)) (h .1) ∙ image-back f (slip-fits form sound f (h .0)),
     ),
   )

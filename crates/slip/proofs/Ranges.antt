@@ -9,9 +9,9 @@ use Rattle.table.proofs.Ranges.{alike-to}
 use Rattle.slip.specs.Meaning.{pacs008Checks, camt050Checks, pacs028Checks}
 
 pub pacs-008-ranges : (n : ℕ) → n ≤ checksMost
-    → isIn n pacs008Checks ≡ (eqb n 3 || leb 5 n && leb n 8 || eqb n 17 || leb 20 n)
+    → isIn n pacs008Checks ≡ (eqb n 3 || leb 5 n && leb n 8 || eqb n 17 || leb 20 n && leb n 34)
 pacs-008-ranges =
-    alike-to checksMost (λ (x : ℕ). isIn x pacs008Checks) (λ (x : ℕ). eqb x 3 || leb 5 x && leb x 8 || eqb x 17 || leb 20 x) refl
+    alike-to checksMost (λ (x : ℕ). isIn x pacs008Checks) (λ (x : ℕ). eqb x 3 || leb 5 x && leb x 8 || eqb x 17 || leb 20 x && leb x 34) refl
 
 pub camt-050-ranges : (n : ℕ) → n ≤ checksMost → isIn n camt050Checks ≡ (leb 3 n && leb n 7 || leb 12 n && leb n 24)
 camt-050-ranges = alike-to checksMost (λ (x : ℕ). isIn x camt050Checks) (λ (x : ℕ). leb 3 x && leb x 7 || leb 12 x && leb x 24) refl

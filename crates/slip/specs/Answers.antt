@@ -9,33 +9,33 @@ use Rattle.slip.specs.declared.Writing.{Writing}
 use Rattle.slip.specs.declared.Writing.the-variants.{Written, NotWritten}
 use Rattle.slip.specs.declared.Reading.{Reading}
 use Rattle.slip.specs.declared.Reading.the-variants.{Holds, NoSlip}
-use Rattle.slip.specs.Meaning.{slipLong, Form, isSlipIn, isSlip}
+use Rattle.slip.specs.Meaning.{slipLong, Measures, measures, formOf, isSlipIn, isSlip}
 use Rattle.slip.specs.Image.{heldIn, spareZero, bytesNumber, image, slipOf}
 
 -- the slip buffer is too short
 abbrev pub bufferShort : List ℕ → Bool
 bufferShort buffer = ltb (length buffer) slipLong
 
--- a slip can be written: the buffer has five bytes or more, and the values are a slip's
+-- a slip can be written: the buffer has six bytes or more, and the values are a slip's
 unfoldable pub canWrite : Slip → List ℕ → Bool
 canWrite s buffer = leb slipLong (length buffer) && isSlip s
 
 unfoldable pub writeAnswer : Slip → List ℕ → Writing
 writeAnswer s buffer = cond (canWrite s buffer) Written NotWritten
 
--- the buffer then: the slip in the first five bytes, the rest as it was; on a refusal all as it was
+-- the buffer then: the slip in the first six bytes, the rest as it was; on a refusal all as it was
 unfoldable pub writeAfter : Slip → List ℕ → List ℕ
 writeAfter s buffer = cond (canWrite s buffer) (image s ++ drop slipLong buffer) buffer
 
 -- the bytes are a slip of a form: exactly as many as it has, the bits after the values zero, and the values a slip's
-abbrev pub holdsIn : Form → List ℕ → Bool
+abbrev pub holdsIn : Measures → List ℕ → Bool
 holdsIn form bytes =
     let n = bytesNumber bytes in
     eqb (length bytes) (form .long) && (spareZero form n && isSlipIn form (heldIn form n))
 
--- the bytes are a slip of five bytes, after which no bits stand
+-- the bytes are a slip of the form that their length says
 unfoldable pub holdsSlip : List ℕ → Bool
-holdsSlip bytes = eqb (length bytes) slipLong && isSlip (slipOf bytes)
+holdsSlip bytes = holdsIn (measures (formOf (length bytes))) bytes
 
 unfoldable pub readAnswer : List ℕ → Reading
 readAnswer bytes = cond (holdsSlip bytes) (Holds (slipOf bytes)) NoSlip

@@ -1,14 +1,14 @@
--- The bits of a slip, most significant first, and the bytes that hold them: document 01, "The slip". Said of any form, and then of the five-byte
--- form, whose 40 bits are the values alone.
+-- The bits of a slip, most significant first, and the bytes that hold them: document 01, "The slip", and request 8 of document 02. Said of any
+-- form by its measures; then of what is written, and of what is read.
 use mathlib.Core.Bool.{Bool}
 use mathlib.Core.List.{List, [], _∷_, map}
 use Prim.Native.Nat.{ℕ, zero, suc, _<_, _^_}
 use lib.Dec.{eqb}
-use lib.ListN.{getD, replicate}
+use lib.ListN.{length, getD, replicate}
 use Rattle.shape.specs.Bits.{joined, cut}
 use Rattle.shape.specs.Bytes.{every}
 use Rattle.slip.specs.declared.Slip.{Slip}
-use Rattle.slip.specs.Meaning.{slipLong, Widths, Form, fiveBytes}
+use Rattle.slip.specs.Meaning.{Widths, Measures, sixBytes, measures, formOf}
 
 -- a byte is a field of eight bits
 abbrev pub byteWide : ℕ
@@ -29,12 +29,12 @@ abbrev pub spareFields : ℕ → List (ℕ × ℕ)
 spareFields n = map {B = ℕ × ℕ} (λ (w : ℕ). (w, 0)) (spareWidths n)
 
 -- the widths of the fields, and the fields of a slip
-abbrev pub widthsIn : Form → List ℕ
+abbrev pub widthsIn : Measures → List ℕ
 widthsIn form =
     let w = form .widths in
     w .kind ∷ w .status ∷ w .check ∷ w .seat ∷ w .opening ∷ w .step ∷ spareWidths (form .spare)
 
-abbrev pub fieldsIn : Form → Slip → List (ℕ × ℕ)
+abbrev pub fieldsIn : Measures → Slip → List (ℕ × ℕ)
 fieldsIn form s =
     let w = form .widths in
     (w .kind, s .kind)
@@ -55,13 +55,13 @@ pub record Fits (w : Widths) (s : Slip) : Type 0 where
   pub step : s .step < 2 ^ w .step
 
 -- the slip as one number, a number's bytes, and so the bytes of a slip
-abbrev pub numberIn : Form → Slip → ℕ
+abbrev pub numberIn : Measures → Slip → ℕ
 numberIn form s = joined 0 (fieldsIn form s)
 
-abbrev pub bytesIn : Form → ℕ → List ℕ
+abbrev pub bytesIn : Measures → ℕ → List ℕ
 bytesIn form n = values (cut (replicate (form .long) byteWide) n)
 
-abbrev pub imageIn : Form → Slip → List ℕ
+abbrev pub imageIn : Measures → Slip → List ℕ
 imageIn form s = bytesIn form (numberIn form s)
 
 -- the six values that a number holds
@@ -69,32 +69,24 @@ abbrev pub slipFrom : List ℕ → Slip
 slipFrom vs =
     record { kind = getD vs 0 0; status = getD vs 1 0; check = getD vs 2 0; seat = getD vs 3 0; opening = getD vs 4 0; step = getD vs 5 0 }
 
-abbrev pub heldIn : Form → ℕ → Slip
+abbrev pub heldIn : Measures → ℕ → Slip
 heldIn form n = slipFrom (values (cut (widthsIn form) n))
 
 -- its bits after the values are zero
-abbrev pub spareZero : Form → ℕ → Bool
+abbrev pub spareZero : Measures → ℕ → Bool
 spareZero form n = every (λ (v : ℕ). eqb v 0) (values (cut (spareWidths (form .spare)) n))
 
 -- bytes as one number
 abbrev pub bytesNumber : List ℕ → ℕ
 bytesNumber bytes = joined 0 (byteFields bytes)
 
--- of the five-byte form: the fields, the number, the bytes, and the values that a number of 40 bits and that bytes hold
-unfoldable pub fieldsOf : Slip → List (ℕ × ℕ)
-fieldsOf = fieldsIn fiveBytes
-
+-- what is written: a slip of six bytes, as one number and as bytes
 unfoldable pub slipNumber : Slip → ℕ
-slipNumber s = joined 0 (fieldsOf s)
-
-abbrev pub byteWidths : List ℕ
-byteWidths = replicate slipLong byteWide
+slipNumber = numberIn sixBytes
 
 unfoldable pub image : Slip → List ℕ
-image s = bytesIn fiveBytes (slipNumber s)
+image s = bytesIn sixBytes (slipNumber s)
 
-unfoldable pub slipIn : ℕ → Slip
-slipIn = heldIn fiveBytes
-
+-- what is read: the values that bytes hold in the form that their length says
 unfoldable pub slipOf : List ℕ → Slip
-slipOf bytes = slipIn (bytesNumber bytes)
+slipOf bytes = heldIn (measures (formOf (length bytes))) (bytesNumber bytes)

@@ -1,12 +1,14 @@
--- What a slip says: document 01, "The slip". A slip is exactly what that section ranges over, whether a message can bring it about or not.
--- A form says how long its values are and what it may say; the five-byte form is the one that document 01 gives.
-use mathlib.Core.Bool.{Bool, false, _&&_, _||_}
+-- What a slip says: document 01, "The slip", and request 8 of document 02. A slip is exactly what these range over, whether a message can bring
+-- it about or not. It has one of two forms: five bytes, which mark books hold and which is only read, and six bytes, which is written too.
+use mathlib.Core.Bool.{Bool, false, _&&_, _||_, cond}
 use mathlib.Core.List.{List, [], _∷_, _++_}
 use Prim.Native.Nat.{ℕ, _-_}
 use lib.Dec.{leb, eqb}
 use Rattle.table.specs.declared.Kind.{Kind}
 use Rattle.table.specs.declared.Kind.the-variants.{Pacs008, Camt050, Pacs028}
-use Rattle.table.specs.Checks.{checksMost, _to_, isIn}
+use Rattle.table.specs.Checks.{_to_, isIn}
+use Rattle.slip.specs.declared.Form.{Form}
+use Rattle.slip.specs.declared.Form.the-variants.{FiveBytes, SixBytes}
 use Rattle.slip.specs.declared.Slip.{Slip}
 use Rattle.slip.specs.declared.Status.{Status}
 use Rattle.slip.specs.declared.Status.the-variants.{Pdng, Accc, Rjct}
@@ -22,12 +24,12 @@ statusNumber Pdng = 0
 statusNumber Accc = 1
 statusNumber Rjct = 2
 
--- the bytes of a slip; seats 0 to 7, openings 1 to 65,535, steps 1 to 24
+-- the bytes of a slip that is written; seats 0 to 11, openings 1 to 65,535, steps 1 to 24
 abbrev pub slipLong : ℕ
-slipLong = 5
+slipLong = 6
 
 abbrev pub seats : ℕ
-seats = 8
+seats = 12
 
 abbrev pub openings : ℕ
 openings = 65535
@@ -46,7 +48,7 @@ saying kind status checks = record { kind = kindNumber kind; status = statusNumb
 
 -- the checks that a slip may name: those of the kind's order but for 1 and 2, which never appear
 abbrev pub pacs008Checks : List ℕ
-pacs008Checks = 3 ∷ 5 to 8 ++ 17 ∷ 20 to checksMost
+pacs008Checks = 3 ∷ 5 to 8 ++ 17 ∷ 20 to 34
 
 abbrev pub camt050Checks : List ℕ
 camt050Checks = 3 to 7 ++ 12 to 24
@@ -84,31 +86,44 @@ pub record Widths : Type 0 where
   pub opening : ℕ
   pub step : ℕ
 
--- a form of slips: the widths of the values, how many zero bits stand after them, the bytes of it, the seats it can name, and what it may say
-pub record Form : Type 0 where
+-- the measures of a form: the widths of the values, how many zero bits stand after them, the bytes in all, the seats that it can name, and what
+-- it may say
+pub record Measures : Type 0 where
   pub widths : Widths
   pub spare : ℕ
   pub long : ℕ
   pub seats : ℕ
   pub sayings : List Saying
 
--- the five-byte form: kind 3, status 2, check 6, seat 3, opening 16, step 10
-abbrev pub fiveBytes : Form
-fiveBytes = record {
-  widths = record { kind = 3; status = 2; check = 6; seat = 3; opening = 16; step = 10 };
-  spare = 0;
-  long = slipLong;
-  seats = seats;
-  sayings = sayings;
-}
+-- both forms have kind 3, status 2, check 6, opening 16 and step 10; they differ in the seat
+abbrev pub widthsWith : ℕ → Widths
+widthsWith seat = record { kind = 3; status = 2; check = 6; seat = seat; opening = 16; step = 10 }
+
+-- five bytes: 40 bits, seats 0 to 7
+abbrev pub fiveBytes : Measures
+fiveBytes = record { widths = widthsWith 3; spare = 0; long = 5; seats = 8; sayings = sayings }
+
+-- six bytes: 41 bits and then seven that are zero, every seat of a room
+abbrev pub sixBytes : Measures
+sixBytes = record { widths = widthsWith 4; spare = 7; long = slipLong; seats = seats; sayings = sayings }
+
+-- the two forms by the names that the code has for them
+abbrev pub measures : Form → Measures
+measures FiveBytes = fiveBytes
+measures SixBytes = sixBytes
+
+-- the length alone says which form bytes are to be read in: five bytes in the five-byte form, any others in the other, which has six
+abbrev pub formOf : ℕ → Form
+formOf long = cond (eqb long (fiveBytes .long)) FiveBytes SixBytes
 
 -- the six values are those of a slip of a form
-abbrev pub isSlipIn : Form → Slip → Bool
+abbrev pub isSlipIn : Measures → Slip → Bool
 isSlipIn form s =
     saysIn (form .sayings) (s .kind) (s .status) (s .check)
     && leb (s .seat) (form .seats - 1)
     && leb 1 (s .opening) && leb (s .opening) openings
     && leb 1 (s .step) && leb (s .step) steps
 
+-- they are those of a slip that can be written
 unfoldable pub isSlip : Slip → Bool
-isSlip = isSlipIn fiveBytes
+isSlip = isSlipIn sixBytes

@@ -1,14 +1,16 @@
-// The slip that the centre answers with: five bytes that say the kind of message, how it ended, by which check, and the seat, the opening and
-// the step it belongs to. Writing and reading one, and what a slip can say at all: document 01, "The slip".
-// It knows nothing of rooms. The definitions stand in `specs/`: what a slip means, its 40 bits, and what the two calls answer.
+// The slip that the centre answers with: bytes that say the kind of message, how it ended, by which check, and the seat, the opening and the
+// step it belongs to. Writing and reading one, and what a slip can say at all: document 01, "The slip", and request 8 of document 02.
+// Six bytes are written; five bytes, which lie in mark books, are read as well. It knows nothing of rooms.
+// The definitions stand in `specs/`: what a slip means in each form, its bits, and what the two calls answer.
 use table::CHECKS_MOST;
 use table::Kind;
 ghost use mathlib.Core.Path.{_≡_};
 ghost use Prim.Native.Nat.{_<_, _≤_, _^_};
 ghost use lib.ListN.{length};
 ghost use Rattle.table.specs.Checks.{checksMost, isIn};
-ghost use Rattle.slip.specs.Meaning.{kindNumber, statusNumber, slipLong, pacs008Checks, camt050Checks, pacs028Checks, says, fiveBytes, isSlip};
-ghost use Rattle.slip.specs.Image.{byteWide, Fits, slipNumber, slipIn, bytesNumber};
+ghost use Rattle.slip.specs.Meaning.{kindNumber, statusNumber, slipLong, pacs008Checks, camt050Checks, pacs028Checks, says};
+ghost use Rattle.slip.specs.Meaning.{sixBytes, measures, formOf, isSlipIn};
+ghost use Rattle.slip.specs.Image.{byteWide, Fits, slipNumber, heldIn, spareZero, bytesNumber};
 ghost use Rattle.slip.specs.Answers.{writeAnswer, writeAfter, readAnswer};
 
 // How a message ended.
@@ -40,11 +42,17 @@ pub enum Reading {
     NoSlip,
 }
 
-// The bytes of a slip.
-pub const SLIP_LONG: usize = 5;
+// The forms of a slip.
+pub enum Form {
+    FiveBytes,
+    SixBytes,
+}
+
+// The bytes of a slip that is written.
+pub const SLIP_LONG: usize = 6;
 
 // The pupils' places in a room, the times that one can be opened, the steps of an exercise.
-pub const SEATS: u64 = 8;
+pub const SEATS: u64 = 12;
 
 pub const OPENINGS: u64 = 65535;
 
@@ -63,29 +71,30 @@ const ACCC: u64 = 1;
 
 const RJCT: u64 = 2;
 
-// How many bits each value has, the most significant first.
+// How many bits each value has in six bytes, the most significant first.
 const KIND_WIDE: u64 = 3;
 
 const STATUS_WIDE: u64 = 2;
 
 const CHECK_WIDE: u64 = 6;
 
-const SEAT_WIDE: u64 = 3;
+const SEAT_WIDE: u64 = 4;
 
 const OPENING_WIDE: u64 = 16;
 
 const STEP_WIDE: u64 = 10;
 
-// How many bits stand after each value.
-const AFTER_OPENING: u64 = STEP_WIDE;
+// The zero bits after them.
+const SPARE_WIDE: u64 = 7;
 
-const AFTER_SEAT: u64 = AFTER_OPENING + OPENING_WIDE;
+// What the five-byte form has instead: its bytes, its seats, their bits, and no bits after the values.
+const FIVE_LONG: usize = 5;
 
-const AFTER_CHECK: u64 = AFTER_SEAT + SEAT_WIDE;
+const FIVE_SEATS: u64 = 8;
 
-const AFTER_STATUS: u64 = AFTER_CHECK + CHECK_WIDE;
+const FIVE_SEAT_WIDE: u64 = 3;
 
-const AFTER_KIND: u64 = AFTER_STATUS + STATUS_WIDE;
+const FIVE_SPARE_WIDE: u64 = 0;
 
 // The bits of a byte, and how many numbers a byte can be.
 const BYTE_WIDE: u64 = 8;
@@ -117,7 +126,7 @@ fn of_pacs_008(check: u64) -> bool
     requires { ⌜ check ≤ checksMost ⌝ }
     ensures { λ r. ⌜ r ≡ isIn check pacs008Checks ⌝ }
 {
-    (check == 3) | ((5 <= check) & (check <= 8)) | (check == 17) | (20 <= check)
+    (check == 3) | ((5 <= check) & (check <= 8)) | (check == 17) | ((20 <= check) & (check <= 34))
 }
 
 fn of_camt_050(check: u64) -> bool
@@ -153,43 +162,103 @@ pub fn can_say(kind: u64, status: u64, check: u64) -> bool
         | ((kind == PACS_028) & (status == RJCT) & in_pacs_008)
 }
 
-// Whether the six values are those of a slip.
-pub fn is_slip(s: Slip) -> bool
-    ensures { λ r. ⌜ r ≡ isSlip s ⌝ }
+// The measures in which the forms differ.
+fn seats_in(form: Form) -> u64
+    ensures { λ r. ⌜ r ≡ measures form .seats ⌝ }
+{
+    match form {
+        Form::FiveBytes => FIVE_SEATS,
+        Form::SixBytes => SEATS,
+    }
+}
+
+fn long_in(form: Form) -> usize
+    ensures { λ r. ⌜ r ≡ measures form .long ⌝ }
+{
+    match form {
+        Form::FiveBytes => FIVE_LONG,
+        Form::SixBytes => SLIP_LONG,
+    }
+}
+
+fn seat_wide_in(form: Form) -> u64
+    ensures { λ r. ⌜ r ≡ measures form .widths .seat ⌝ }
+{
+    match form {
+        Form::FiveBytes => FIVE_SEAT_WIDE,
+        Form::SixBytes => SEAT_WIDE,
+    }
+}
+
+fn spare_wide_in(form: Form) -> u64
+    ensures { λ r. ⌜ r ≡ measures form .spare ⌝ }
+{
+    match form {
+        Form::FiveBytes => FIVE_SPARE_WIDE,
+        Form::SixBytes => SPARE_WIDE,
+    }
+}
+
+// The form that so many bytes are read in.
+fn form_of(long: usize) -> Form
+    ensures { λ r. ⌜ r ≡ formOf long ⌝ }
+{
+    if long == FIVE_LONG {
+        return Form::FiveBytes;
+    }
+    Form::SixBytes
+}
+
+// Whether the six values are those of a slip of a form.
+pub fn is_slip(form: Form, s: Slip) -> bool
+    ensures { λ r. ⌜ r ≡ isSlipIn (measures form) s ⌝ }
 {
     can_say(s.kind, s.status, s.check)
-        & (s.seat <= SEATS - 1)
+        & (s.seat <= seats_in(form) - 1)
         & (1 <= s.opening)
         & (s.opening <= OPENINGS)
         & (1 <= s.step)
         & (s.step <= STEPS)
 }
 
-// The 40 bits as one number.
+// The bits of a slip of six bytes as one number.
 fn number_of(s: Slip) -> u64
-    requires { ⌜ Fits (fiveBytes .widths) s ⌝ }
+    requires { ⌜ Fits (sixBytes .widths) s ⌝ }
     ensures { λ r. ⌜ r ≡ slipNumber s ⌝ }
 {
     let front = (s.kind * (1 << STATUS_WIDE) + s.status) * (1 << CHECK_WIDE) + s.check;
     let middle = (front * (1 << SEAT_WIDE) + s.seat) * (1 << OPENING_WIDE) + s.opening;
-    middle * (1 << STEP_WIDE) + s.step
+    (middle * (1 << STEP_WIDE) + s.step) * (1 << SPARE_WIDE)
 }
 
-// The six values that a number of 40 bits holds.
-fn values_of(n: u64) -> Slip
-    ensures { λ r. ⌜ r ≡ slipIn n ⌝ }
+// The six values that the bits of a number hold in a form.
+fn values_in(form: Form, n: u64) -> Slip
+    ensures { λ r. ⌜ r ≡ heldIn (measures form) n ⌝ }
 {
+    let seat_wide = seat_wide_in(form);
+    let after_step = spare_wide_in(form);
+    let after_opening = after_step + STEP_WIDE;
+    let after_seat = after_opening + OPENING_WIDE;
+    let after_check = after_seat + seat_wide;
+    let after_status = after_check + CHECK_WIDE;
     Slip {
-        kind: (n >> AFTER_KIND) % (1 << KIND_WIDE),
-        status: (n >> AFTER_STATUS) % (1 << STATUS_WIDE),
-        check: (n >> AFTER_CHECK) % (1 << CHECK_WIDE),
-        seat: (n >> AFTER_SEAT) % (1 << SEAT_WIDE),
-        opening: (n >> AFTER_OPENING) % (1 << OPENING_WIDE),
-        step: n % (1 << STEP_WIDE),
+        kind: (n >> (after_status + STATUS_WIDE)) % (1 << KIND_WIDE),
+        status: (n >> after_status) % (1 << STATUS_WIDE),
+        check: (n >> after_check) % (1 << CHECK_WIDE),
+        seat: (n >> after_seat) % (1 << seat_wide),
+        opening: (n >> after_opening) % (1 << OPENING_WIDE),
+        step: (n >> after_step) % (1 << STEP_WIDE),
     }
 }
 
-// Writes a slip into the first five bytes of the buffer. The bytes after them stay; on a refusal all of them do.
+// Whether the bits after the values are zero.
+fn spare_zero(form: Form, n: u64) -> bool
+    ensures { λ r. ⌜ r ≡ spareZero (measures form) n ⌝ }
+{
+    n % (1 << spare_wide_in(form)) == 0
+}
+
+// Writes a slip into the first six bytes of the buffer. The bytes after them stay; on a refusal all of them do.
 pub fn write(s: Slip, buffer: &mut [u8]) -> Writing
     ensures { λ r. ⌜ r ≡ writeAnswer s (now (buffer .entry)) ⌝ }
     ensures { λ _. ⌜ now (buffer .exit) ≡ writeAfter s (now (buffer .entry)) ⌝ }
@@ -197,15 +266,16 @@ pub fn write(s: Slip, buffer: &mut [u8]) -> Writing
     if buffer.len() < SLIP_LONG {
         return Writing::NotWritten;
     }
-    if !is_slip(s) {
+    if !is_slip(Form::SixBytes, s) {
         return Writing::NotWritten;
     }
     let n = number_of(s);
-    buffer[0] = ((n >> (4 * BYTE_WIDE)) % BYTE_RANGE) as u8;
-    buffer[1] = ((n >> (3 * BYTE_WIDE)) % BYTE_RANGE) as u8;
-    buffer[2] = ((n >> (2 * BYTE_WIDE)) % BYTE_RANGE) as u8;
-    buffer[3] = ((n >> BYTE_WIDE) % BYTE_RANGE) as u8;
-    buffer[4] = (n % BYTE_RANGE) as u8;
+    buffer[0] = ((n >> (5 * BYTE_WIDE)) % BYTE_RANGE) as u8;
+    buffer[1] = ((n >> (4 * BYTE_WIDE)) % BYTE_RANGE) as u8;
+    buffer[2] = ((n >> (3 * BYTE_WIDE)) % BYTE_RANGE) as u8;
+    buffer[3] = ((n >> (2 * BYTE_WIDE)) % BYTE_RANGE) as u8;
+    buffer[4] = ((n >> BYTE_WIDE) % BYTE_RANGE) as u8;
+    buffer[5] = (n % BYTE_RANGE) as u8;
     Writing::Written
 }
 
@@ -215,24 +285,31 @@ fn wide(b: u8) -> u64
     b as u64
 }
 
-// Five bytes as one number.
+// The bytes of a slip as one number.
 fn number_in(bytes: &[u8]) -> u64
-    requires { ⌜ length (now bytes) ≡ slipLong ⌝ }
+    requires { ⌜ length (now bytes) ≤ slipLong ⌝ }
     ensures { λ r. ⌜ r ≡ bytesNumber (now (bytes .entry)) ⌝ }
 {
-    let front = (wide(bytes[0]) * BYTE_RANGE + wide(bytes[1])) * BYTE_RANGE + wide(bytes[2]);
-    (front * BYTE_RANGE + wide(bytes[3])) * BYTE_RANGE + wide(bytes[4])
+    let mut n = 0;
+    let mut i = 0;
+    while i < bytes.len() {
+        n = n * BYTE_RANGE + wide(bytes[i]);
+        i += 1;
+    }
+    n
 }
 
-// Reads a slip: exactly five bytes whose values are a slip's.
+// Reads a slip: exactly five or exactly six bytes, no bit set after the values, and the values those of a slip of that form.
 pub fn read(bytes: &[u8]) -> Reading
     ensures { λ r. ⌜ r ≡ readAnswer (now (bytes .entry)) ⌝ }
 {
-    if bytes.len() != SLIP_LONG {
+    let form = form_of(bytes.len());
+    if bytes.len() != long_in(form) {
         return Reading::NoSlip;
     }
-    let s = values_of(number_in(bytes));
-    if is_slip(s) {
+    let n = number_in(bytes);
+    let s = values_in(form, n);
+    if spare_zero(form, n) & is_slip(form, s) {
         return Reading::Holds(s);
     }
     Reading::NoSlip

@@ -1,9 +1,8 @@
-//! A lesson's calls on accounts, steps and slips.
+//! A lesson's calls on accounts and steps.
 
 use super::{Maker, Touched, EDGES};
 use crate::directory::Kind;
 use crate::room::{STEPS, SUM_MOST};
-use crate::slip::{is_result, Slip};
 
 impl Maker {
     pub(super) fn settings(&mut self) -> String {
@@ -49,57 +48,4 @@ impl Maker {
         let account = if self.dice.chance(92) { self.dice.between(1, 2) } else { self.dice.pick(&EDGES) };
         self.line(&format!("read {} {} {} {}", number, opening, code, account));
     }
-
-    /// Six fields of a slip, of which one may be beside its range.
-    fn slip_values(&mut self) -> [u64; 6] {
-        let mut values = [0; 6];
-        while !is_result(values[0], values[1], values[2]) {
-            values = [
-                self.dice.between(1, 3),
-                self.dice.below(3),
-                self.dice.below(35),
-                self.dice.below(8),
-                self.dice.between(1, 65_535),
-                self.dice.between(1, 24),
-            ];
-        }
-        let edges: [&[u64]; 6] =
-            [&[0, 1, 3, 4], &[0, 2, 3], &[0, 1, 2, 34, 35], &[0, 7, 8], &[0, 1, 65_535, 65_536], &[0, 1, 24, 25]];
-        let place = self.dice.place(6);
-        match self.dice.below(10) {
-            0..=3 => values[place] = self.dice.pick(edges[place]),
-            4 | 5 => values[2] = self.dice.below(36),
-            6 => values[place] = self.dice.pick(&EDGES),
-            _ => {}
-        }
-        values
-    }
-
-    /// Writes a slip, or reads one that is right but perhaps for a bit or its length.
-    pub(super) fn use_slip(&mut self) {
-        let values = self.slip_values();
-        let [kind, status, check, seat, opening, step] = values;
-        let bytes = Slip { kind, status, check, seat, opening, step }.bytes();
-        if bytes.is_none() || self.dice.chance(40) {
-            let long = if self.dice.chance(70) { 5 } else { self.dice.below(9) };
-            let words: Vec<String> = values.iter().map(u64::to_string).collect();
-            self.line(&format!("write {} {}", words.join(" "), long));
-        }
-        let is_right = bytes.is_some();
-        let mut bytes = bytes.map_or_else(|| packed(values), |bytes| bytes.to_vec());
-        match self.dice.below(6) {
-            0 => bytes.truncate(4),
-            1 => bytes.push(170),
-            2 | 3 if is_right => bytes[self.dice.place(5)] ^= 1 << self.dice.below(8),
-            _ => {}
-        }
-        let hex: String = bytes.iter().map(|byte| format!("{:02x}", byte)).collect();
-        self.line(&format!("slip {}", hex));
-    }
-}
-
-/// Fields that no slip may have, put together as if they were in range.
-fn packed([kind, status, check, seat, opening, step]: [u64; 6]) -> Vec<u8> {
-    let bits = kind << 37 ^ status << 35 ^ check << 29 ^ seat << 26 ^ opening << 10 ^ step;
-    bits.to_be_bytes()[3..].to_vec()
 }

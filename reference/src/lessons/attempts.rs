@@ -101,7 +101,7 @@ impl Maker {
             LIQUIDITY => self.liquidity(seat),
             _ => self.request(seat),
         };
-        let long = [5, self.dice.between(5, 8), self.dice.below(5)][self.dice.weighed(&[80, 18, 2])];
+        let long = self.buffer();
         Attempt { seat, opening, sender, date: self.date, long, draft }
     }
 

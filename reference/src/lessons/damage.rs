@@ -64,8 +64,8 @@ pub fn many(dice: &mut Dice, sheet: &mut Vec<u8>) {
 
 /// An ignored element whose name or text is as long as allowed or one byte longer.
 pub fn long(dice: &mut Dice, sheet: &mut Vec<u8>) {
-    let name_long = if dice.chance(50) { NAME_MOST - 2 + dice.place(3) } else { 1 };
-    let text_long = if dice.chance(50) { TEXT_MOST - 1 + dice.place(3) } else { 1 };
+    let name_long = if dice.chance(50) { NAME_MOST - 1 + dice.place(2) } else { 1 };
+    let text_long = if dice.chance(50) { TEXT_MOST + dice.place(2) } else { 1 };
     let name = format!("N{}", capitals(dice, name_long));
     let text = capitals(dice, text_long);
     put_in_body(sheet, format!("<{}>{}</{}>", name, text, name).as_bytes());

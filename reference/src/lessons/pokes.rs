@@ -10,6 +10,23 @@ use crate::slip::ACCC;
 /// Where a seat's journal begins.
 const JOURNAL: usize = SEAT_LONG - STEPS * STEP_LONG;
 
+/// A room of the eight seats of document 01.
+const EIGHT_SEATS_LONG: usize = 8 * SEAT_LONG;
+
+/// Lengths that no room has; that of eight seats twice, so that it comes up more often.
+const WRONG_LENGTHS: [usize; 10] = [
+    0,
+    1,
+    SEAT_LONG,
+    EIGHT_SEATS_LONG,
+    EIGHT_SEATS_LONG,
+    ROOM_LONG - SEAT_LONG,
+    ROOM_LONG - 1,
+    ROOM_LONG + 1,
+    ROOM_LONG + 8,
+    ROOM_LONG + 16,
+];
+
 impl Maker {
     /// A place of the room: mostly in the head, the accounts or the used steps of an open seat.
     fn place(&mut self) -> usize {
@@ -57,10 +74,10 @@ impl Maker {
 
     /// A number of the room is changed, a call or two are made, and it is mostly changed back.
     pub(super) fn poke(&mut self) {
-        match self.dice.below(10) {
+        match self.dice.below(13) {
             0 | 1 => self.poke_alike(Maker::poke_sums),
-            2 => self.poke_alike(Maker::poke_movement),
-            3 | 4 => self.poke_alike(Maker::poke_setting),
+            2..=4 => self.poke_alike(Maker::poke_movement),
+            5 | 6 => self.poke_alike(Maker::poke_setting),
             _ => {
                 let place = self.place();
                 let old = self.player.room()[place];
@@ -153,6 +170,23 @@ impl Maker {
         self.put(at, sum);
     }
 
+    /// The accounts of a movement, or others in their place: mostly near ones, since those have money.
+    fn other_accounts(&mut self, kind: u64, debit: u64, credit: u64) -> (u64, u64) {
+        let accounts = 2 * self.player.directory.len() as u64;
+        let other_debit = match self.dice.below(4) {
+            0 | 1 => debit,
+            2 => debit ^ 1,
+            _ => self.dice.below(accounts),
+        };
+        let other_credit = match self.dice.below(4) {
+            0 => other_debit,
+            1 if kind != PAYMENT => other_debit ^ 1,
+            1 | 2 => credit,
+            _ => self.dice.below(accounts),
+        };
+        (other_debit, other_credit)
+    }
+
     /// A movement between other accounts or of another amount, with balances and turnovers to match.
     fn poke_movement(&mut self, from: usize) {
         let step =
@@ -162,13 +196,7 @@ impl Maker {
             };
         let kind = self.player.room()[step];
         let old = self.player.room()[step + room::STEP_DEBIT..step + room::STEP_ACCOUNT].to_vec();
-        let owners = 2 * self.player.directory.len() as u64;
-        let debit = if self.dice.chance(50) { old[0] } else { self.dice.below(owners) };
-        let credit = match self.dice.below(3) {
-            0 => debit,
-            1 if kind != PAYMENT => debit ^ 1,
-            _ => self.dice.below(owners),
-        };
+        let (debit, credit) = self.other_accounts(kind, old[0], old[1]);
         let amount =
             if self.dice.chance(60) { old[2] } else { self.dice.pick(&[0, 1, 9_999_999_999_999, 10_000_000_000_000]) };
         self.shift(from, old[0], room::TURNOVER, old[2].wrapping_neg());
@@ -177,6 +205,11 @@ impl Maker {
         self.shift(from, debit, room::TURNOVER, amount);
         self.shift(from, debit, room::BALANCE, amount.wrapping_neg());
         self.shift(from, credit, room::BALANCE, amount);
+        if self.dice.chance(50) {
+            // opened with as much more, the account has the money at that step
+            self.shift(from, debit, room::OPENING_SUM, amount);
+            self.shift(from, debit, room::BALANCE, amount);
+        }
         for (number, value) in [debit, credit, amount].iter().enumerate() {
             self.put(step + room::STEP_DEBIT + number, *value);
         }
@@ -220,7 +253,7 @@ impl Maker {
 
     pub(super) fn lay_or_change(&mut self) {
         if self.dice.chance(40) {
-            let long = self.dice.pick(&[0, 1, 923, 7_383, 7_385, 7_400]);
+            let long = self.dice.pick(&WRONG_LENGTHS);
             self.line(&format!("lay {}", long));
             self.any_call();
             self.lay();
@@ -235,16 +268,17 @@ impl Maker {
 
     /// All that a seat holds; or every check that a message fails.
     pub(super) fn show(&mut self) {
-        let number = if self.dice.chance(90) { self.some_seat() } else { self.dice.below(10) };
+        let number = if self.dice.chance(90) { self.some_seat() } else { self.dice.below(SEATS as u64 + 2) };
         if self.dice.chance(35) || number >= SEATS as u64 {
             self.line(&format!("dump {}", number));
             return;
         }
         let kind = self.dice.between(PAYMENT, REQUEST);
         let mut attempt = self.valid_of(number, kind);
+        let mut check = self.check_of(kind);
         for _ in 0..self.dice.between(0, 4) {
-            let check = self.check_of(kind);
             self.spoil(&mut attempt, check);
+            check = if self.dice.chance(50) { self.check_near(kind, check) } else { self.check_of(kind) };
         }
         let sheet = attempt.draft.sheet();
         self.rows(&attempt, &sheet);

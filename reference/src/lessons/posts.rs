@@ -35,8 +35,8 @@ impl Maker {
         let mut attempt = self.valid_of(seat, kind);
         let mut check = self.check_of(kind);
         self.spoil(&mut attempt, check);
-        for _ in 0..self.dice.weighed(&[50, 35, 15]) {
-            check = if self.dice.chance(60) { self.check_near(kind, check) } else { self.check_of(kind) };
+        for _ in 0..self.dice.weighed(&[40, 40, 20]) {
+            check = if self.dice.chance(75) { self.check_near(kind, check) } else { self.check_of(kind) };
             self.spoil(&mut attempt, check);
         }
         let sheet = attempt.draft.sheet();
@@ -57,7 +57,7 @@ impl Maker {
 
     pub(super) fn put_bad_numbers(&mut self, attempt: &mut Attempt, percent: u64) {
         if self.dice.chance(percent) {
-            attempt.long = self.dice.below(9);
+            attempt.long = self.bad_buffer();
         }
         if self.dice.chance(percent) {
             attempt.date = self.dice.pick(&BAD_DATES);

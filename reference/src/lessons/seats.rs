@@ -4,6 +4,7 @@ use super::{Maker, EDGES};
 use crate::directory::{Kind, Record, RECORDS_MOST};
 use crate::room::{OPENED, OPENING, SEATS, SEAT_LONG, SUM_MOST};
 use crate::shapes::CODE_MOST;
+use crate::slip::FIVE_BYTES;
 
 fn kind_words(kind: Kind) -> String {
     match kind {
@@ -114,7 +115,7 @@ impl Maker {
     pub(super) fn open_badly(&mut self) {
         let mut sums = self.sums();
         let number = if self.dice.chance(80) { self.dice.below(SEATS as u64) } else { self.dice.pick(&EDGES) };
-        match self.dice.below(5) {
+        match self.dice.below(7) {
             0 => {
                 sums.pop();
             }
@@ -123,6 +124,12 @@ impl Maker {
             3 if !sums.is_empty() => {
                 let place = self.dice.place(sums.len());
                 sums[place] = self.dice.pick(&[1, SUM_MOST, SUM_MOST + 1, u64::MAX]);
+            }
+            4 | 5 => {
+                // an owner's sum, the highest there may be or one kopeck more
+                if let Some(place) = sums.iter().position(|sum| *sum > 0) {
+                    sums[place] = SUM_MOST + self.dice.below(2);
+                }
             }
             _ => sums.clear(),
         }
@@ -133,8 +140,12 @@ impl Maker {
         let (number, opening) = self.ticket();
         let other = self.dice.below(SEATS as u64);
         match self.dice.below(8) {
-            0 | 1 => {
+            0 => {
                 self.open(other);
+            }
+            1 => {
+                let any = self.dice.below(SEATS as u64 + 2);
+                self.open(any);
             }
             2 | 3 => self.open_badly(),
             4 => {
@@ -163,11 +174,13 @@ impl Maker {
 
     pub(super) fn wrong_ticket(&mut self) -> (u64, u64) {
         let (number, opening) = self.ticket();
-        match self.dice.below(5) {
+        match self.dice.below(6) {
             0 => (self.dice.pick(&EDGES), opening),
-            1 => (number, self.dice.pick(&EDGES)),
-            2 => (number, opening.wrapping_sub(1)),
-            3 => (number, opening + self.dice.pick(&[1, 65_535, 65_536, 1 << 32])),
+            // seats that a five-byte slip lacks, and the first that a room lacks
+            1 => (self.dice.between(FIVE_BYTES.seats, SEATS as u64), opening),
+            2 => (number, self.dice.pick(&EDGES)),
+            3 => (number, opening.wrapping_sub(1)),
+            4 => (number, opening + self.dice.pick(&[1, 65_535, 65_536, 1 << 32])),
             _ => {
                 let other = self.dice.below(SEATS as u64);
                 (other, self.seat(other)[OPENING])

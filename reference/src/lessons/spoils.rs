@@ -53,12 +53,13 @@ impl Maker {
         }
     }
 
-    /// A check that stands close to another in the order, so that it shows which of them comes first.
+    /// A check that stands next to another in the order or next but one, so that it shows which of them comes first.
     pub(super) fn check_near(&mut self, kind: u64, check: u64) -> u64 {
         let order = order_of(kind);
         let place = order.iter().position(|other| *other == check).unwrap_or(0);
-        let from = place.saturating_sub(2);
-        self.dice.pick(&order[from..order.len().min(place + 3)])
+        let distance = if self.dice.chance(70) { 1 } else { 2 };
+        let near = if self.dice.chance(50) { place + distance } else { place.saturating_sub(distance) };
+        order[near.min(order.len() - 1)]
     }
 
     /// Changes an attempt so that a check fails, other checks aside.

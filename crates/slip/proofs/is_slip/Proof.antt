@@ -1,5 +1,5 @@
--- The code is the definition.
-use Rattle.slip.specs.Meaning.{isSlip}
+-- The code is the definition: both forms may say the same, and have their own seats.
+use Rattle.slip.proofs.Measured.{same-sayings, some-seats}
 use borrow.Author.Needs.{needs}
 use Rattle.slip.proofs.is_slip.Statement.{statement}
 use Rattle.slip.proofs.is_slip.Tie as tie
@@ -7,12 +7,17 @@ use Rattle.slip.proofs.is_slip.Tie as tie
 can-say-requires : tie.Need-can-say-requires
 can-say-requires c κs = search needs
 
+seats-in-requires : tie.Need-seats-in-requires
+seats-in-requires c κs = search needs
+
 sub-result : tie.Need-sub-result
-sub-result c = search needs
+sub-result c = some-seats (c .before .before .args .form) (c .seats-in .result) (c .seats-in .ensures)
 
 returns : tie.Need-returns
-unfolding isSlip
-returns c = rw (c .before .before .before .before .before .can-say .ensures)
+returns c =
+    let seats = c .before .before .before .before .before .seats-in in
+    let form = c .before .before .before .before .before .before .before .args .form in
+    rw (c .before .before .before .before .before .before .can-say .ensures, seats .ensures, same-sayings form)
 
 pub is-slip-spec : {M : Type 1} → statement M
-is-slip-spec = tie.close (tie.spec can-say-requires sub-result returns)
+is-slip-spec = tie.close (tie.spec can-say-requires seats-in-requires sub-result returns)

@@ -1,93 +1,69 @@
--- Each byte is read once, and five of them make the number.
-use Rattle.slip.proofs.Bytes.{joined-five}
-use borrow.Author.Needs.{needs}
+-- The number so far and the bytes that are left make the same number in every turn, and six bytes stay far below the width.
+use mathlib.Core.Path.{_≡_, refl, sym, _∙_}
+use Prim.Native.Nat.{_≤_, _<_, _-_, _*_, _^_}
+use native.Mathlib.Omega.{arith}
+use lib.ListN.{length, drop}
+use Rattle.shape.specs.Bits.{joined}
+use Rattle.slip.specs.Image.{byteWide, byteFields, bytesNumber}
+use Rattle.slip.proofs.Bytes.{byte-turn, byte-end, byte-more, bytes-few}
 use Rattle.slip.proofs.number_in.Statement.{statement}
 use Rattle.slip.proofs.number_in.Tie as tie
 
-shared-slice-read-wide : tie.Need-shared-slice-read-wide
-shared-slice-read-wide c = search needs
+abbrev Inv-loop : tie.InvT-loop
+Inv-loop s n₀ i₀ n i = (i ≤ length s) × (bytesNumber s ≡ joined n (byteFields (drop i s))) × (n < 2 ^ (byteWide * i))
 
-wide-requires : tie.Need-wide-requires
-wide-requires c κs = search needs
+abbrev μ-loop : tie.MeasureT-loop
+μ-loop s n₀ i₀ n i = length s - i
 
-mul-front : tie.Need-mul-front
-mul-front c = search needs
+loop-holds : tie.Need-loop-holds Inv-loop μ-loop
+loop-holds c = (omega arith, refl, omega arith)
 
-shared-slice-read-wide-2 : tie.Need-shared-slice-read-wide-2
-shared-slice-read-wide-2 c = search needs
+mul-n : tie.Need-mul-n Inv-loop μ-loop
+mul-n c = omega (arith, bytes-few (c .before .loop .i) (c .before .loop .n) (omega arith) (c .before .loop .inv .2))
 
-wide-requires-2 : tie.Need-wide-requires-2
-wide-requires-2 c κs = search needs
+shared-slice-read-wide : tie.Need-shared-slice-read-wide Inv-loop μ-loop
+shared-slice-read-wide c = omega arith
 
-add-front : tie.Need-add-front
-add-front c = search needs
+wide-requires : tie.Need-wide-requires Inv-loop μ-loop
+wide-requires c κs = tt
 
-mul-front-2 : tie.Need-mul-front-2
-mul-front-2 c = search needs
+add-n : tie.Need-add-n Inv-loop μ-loop
+add-n c =
+    let turn = c .before .before .before .loop in
+    omega (arith, bytes-few (turn .i) (turn .n) (omega arith) (turn .inv .2), c .wide .ensures .1)
 
-shared-slice-read-wide-3 : tie.Need-shared-slice-read-wide-3
-shared-slice-read-wide-3 c = search needs
+add-i : tie.Need-add-i Inv-loop μ-loop
+add-i c = omega arith
 
-wide-requires-3 : tie.Need-wide-requires-3
-wide-requires-3 c κs = search needs
+loop-less : tie.Need-loop-less Inv-loop μ-loop
+loop-less c = omega arith
 
-add-front-2 : tie.Need-add-front-2
-add-front-2 c = search needs
+loop-again : tie.Need-loop-again Inv-loop μ-loop
+loop-again c =
+    let turn = c .before .before .before .loop in
+    let s = c .before .before .before .before .before .args .bytes .now in (
+      omega arith,
+      turn .inv .1 ∙ byte-turn s (turn .i) (turn .n) (omega arith) ∙ rw (c .wide .ensures .0),
+      byte-more (turn .i) (turn .n) (c .wide .result) (turn .inv .2) (c .wide .ensures .1),
+    )
 
-mul-result : tie.Need-mul-result
-mul-result c = search needs
-
-shared-slice-read-wide-4 : tie.Need-shared-slice-read-wide-4
-shared-slice-read-wide-4 c = search needs
-
-wide-requires-4 : tie.Need-wide-requires-4
-wide-requires-4 c κs = search needs
-
-add-result : tie.Need-add-result
-add-result c = search needs
-
-mul-result-2 : tie.Need-mul-result-2
-mul-result-2 c = search needs
-
-shared-slice-read-wide-5 : tie.Need-shared-slice-read-wide-5
-shared-slice-read-wide-5 c = search needs
-
-wide-requires-5 : tie.Need-wide-requires-5
-wide-requires-5 c κs = search needs
-
-add-result-2 : tie.Need-add-result-2
-add-result-2 c = search needs
-
-returns : tie.Need-returns
+returns : tie.Need-returns Inv-loop μ-loop
 returns c =
-    let start = c .before .before .before .before .before .before .before .before .before .before .before in
-    joined-five (start .args .bytes .now) (start .pre)
-    (c .before .before .before .before .before .before .before .before .wide .ensures .0)
-    (c .before .before .before .before .before .before .wide2 .ensures .0)
-    (c .before .before .before .before .wide3 .ensures .0)
-    (c .before .before .wide4 .ensures .0)
-    (c .wide5 .ensures .0)
+    let s = c .before .before .before .args .bytes .now in
+    sym (c .before .loop .inv .1 ∙ byte-end s (c .before .loop .i) (c .before .loop .n) (omega arith))
 
 pub number-in-spec : {M : Type 1} → statement M
 number-in-spec =
     tie.close
     (tie.spec
+    Inv-loop
+    μ-loop
+    loop-holds
+    mul-n
     shared-slice-read-wide
     wide-requires
-    mul-front
-    shared-slice-read-wide-2
-    wide-requires-2
-    add-front
-    mul-front-2
-    shared-slice-read-wide-3
-    wide-requires-3
-    add-front-2
-    mul-result
-    shared-slice-read-wide-4
-    wide-requires-4
-    add-result
-    mul-result-2
-    shared-slice-read-wide-5
-    wide-requires-5
-    add-result-2
+    add-n
+    add-i
+    loop-less
+    loop-again
     returns)

@@ -1,6 +1,6 @@
 -- Both sides are the same sum.
 use native.Mathlib.Omega.{arith}
-use Rattle.slip.specs.Image.{fieldsOf, slipNumber}
+use Rattle.slip.specs.Image.{slipNumber}
 use borrow.Author.Needs.{needs}
 use Rattle.slip.proofs.number_of.Statement.{statement}
 use Rattle.slip.proofs.number_of.Tie as tie
@@ -35,8 +35,11 @@ mul-result c = search needs
 add-result : tie.Need-add-result
 add-result c = search needs
 
+mul-result-2 : tie.Need-mul-result-2
+mul-result-2 c = search needs
+
 returns : tie.Need-returns
-unfolding slipNumber fieldsOf
+unfolding slipNumber
 returns c = omega arith
 
 pub number-of-spec : {M : Type 1} → statement M
@@ -53,4 +56,5 @@ number-of-spec =
     add-middle-2
     mul-result
     add-result
+    mul-result-2
     returns)

@@ -1,11 +1,11 @@
--- The answer follows the two tests; five stores leave the slip in front.
+-- The answer follows the two tests; six stores leave the slip in front.
 use mathlib.Core.Path.{_≡_, refl, sym, _∙_}
 use native.Mathlib.Omega.{arith}
 use lib.ListN.{length, length-set}
 use borrow.Author.Tests.{le-leb, lt-leb, not-true, not-false}
-use Rattle.slip.specs.Meaning.{slipLong, fiveBytes, isSlip}
+use Rattle.slip.specs.Meaning.{slipLong, isSlip}
 use Rattle.slip.specs.Answers.{canWrite, writeAnswer, writeAfter}
-use Rattle.slip.proofs.Small.{five-sound, slip-fits}
+use Rattle.slip.proofs.Exact.{written-fits}
 use Rattle.slip.proofs.Bytes.{stored}
 use borrow.Author.Needs.{needs}
 use Rattle.slip.proofs.write.Statement.{statement}
@@ -19,7 +19,7 @@ is-slip-requires : tie.Need-is-slip-requires
 is-slip-requires c κs = search needs
 
 returns-2 : tie.Need-returns-2
-unfolding writeAnswer writeAfter canWrite
+unfolding writeAnswer writeAfter canWrite isSlip
 returns-2 c =
     rw (
       le-leb slipLong (length (c .before .before .before .before .args .buffer .now)) (c .before .before .if1 .left),
@@ -30,7 +30,7 @@ returns-2 c =
 number-of-requires : tie.Need-number-of-requires
 unfolding isSlip
 number-of-requires c κs =
-    slip-fits fiveBytes five-sound (c .before .before .before .before .args .s) (sym (c .before .is-slip .ensures) ∙ not-false _ (c .if2 .left))
+    written-fits (c .before .before .before .before .args .s) (sym (c .before .is-slip .ensures) ∙ not-false _ (c .if2 .left))
 
 mul-buffer : tie.Need-mul-buffer
 mul-buffer c = search needs
@@ -68,6 +68,12 @@ cast-buffer-3 c = search needs
 slice-write-buffer-3 : tie.Need-slice-write-buffer-3
 slice-write-buffer-3 c = simp length-set (omega arith)
 
+mul-buffer-4 : tie.Need-mul-buffer-4
+mul-buffer-4 c = search needs
+
+shr-buffer-4 : tie.Need-shr-buffer-4
+shr-buffer-4 c = search needs
+
 cast-buffer-4 : tie.Need-cast-buffer-4
 cast-buffer-4 c = search needs
 
@@ -78,13 +84,19 @@ cast-buffer-5 : tie.Need-cast-buffer-5
 cast-buffer-5 c = search needs
 
 slice-write-buffer-5 : tie.Need-slice-write-buffer-5
-slice-write-buffer-5 c = search needs
+slice-write-buffer-5 c = simp length-set (omega arith)
+
+cast-buffer-6 : tie.Need-cast-buffer-6
+cast-buffer-6 c = search needs
+
+slice-write-buffer-6 : tie.Need-slice-write-buffer-6
+slice-write-buffer-6 c = search needs
 
 same-length : tie.Need-same-length
-same-length c = search needs
+same-length c = simp length-set
 
 returns-3 : tie.Need-returns-3
-unfolding writeAnswer writeAfter canWrite
+unfolding writeAnswer writeAfter canWrite isSlip
 returns-3 c =
     let at = c .before .before .before .before .before .args in
     let long = c .before .before .before .if1 .left in
@@ -114,9 +126,13 @@ write-spec =
     shr-buffer-3
     cast-buffer-3
     slice-write-buffer-3
+    mul-buffer-4
+    shr-buffer-4
     cast-buffer-4
     slice-write-buffer-4
     cast-buffer-5
     slice-write-buffer-5
+    cast-buffer-6
+    slice-write-buffer-6
     same-length
     returns-3)

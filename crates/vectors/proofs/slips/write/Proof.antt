@@ -1,17 +1,21 @@
--- The loop counts to the buffer's seven bytes.
-use Prim.Native.Nat.{_≤_, _-_}
+-- The loop counts to the end of the buffer, which is two bytes longer than a slip.
+use Prim.Native.Nat.{ℕ, _≤_, _+_, _-_}
 use mathlib.Core.Path.{_≡_}
 use lib.ListN.{length}
 use native.Mathlib.Omega.{arith}
+use Rattle.slip.specs.Meaning.{slipLong}
 use Rattle.vectors.proofs.slips.write.Statement.{statement}
 use Rattle.vectors.proofs.slips.write.Tie as tie
 use borrow.Author.Needs.{needs}
 
+abbrev bufferLong : ℕ
+bufferLong = slipLong + 2
+
 abbrev Inv-loop : tie.InvT-loop
-Inv-loop text buffer i₀ i = (i ≤ 7) × (length buffer ≡ 7)
+Inv-loop text buffer i₀ i = (i ≤ bufferLong) × (length buffer ≡ bufferLong)
 
 abbrev μ-loop : tie.MeasureT-loop
-μ-loop text buffer i₀ i = 7 - i
+μ-loop text buffer i₀ i = bufferLong - i
 
 slip-in-requires : tie.Need-slip-in-requires Inv-loop μ-loop
 slip-in-requires c κs = search needs
