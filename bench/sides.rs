@@ -4,6 +4,7 @@ use crate::fail;
 use crate::lesson::{step, School, Step, DATE, PATTERN_GIVES};
 use reference::calls::{self, AccountName, Refusal, Sent, Settings, Ticket};
 use reference::room::{ROOM_LONG, SEAT_LONG, STEPS, STEP_COUNT, STEP_LONG};
+use reference::slip::SLIP_LONG;
 
 // The proved library. A directory is four numbers a record: code, instant flag, kind, named owner. A result is the call's number and 256
 // times its detail.
@@ -40,7 +41,6 @@ extern "C" {
     ) -> u64;
 }
 
-pub const SLIP_LONG: usize = 5;
 /// What a slip's buffer holds before a call.
 pub const BUFFER_BYTE: u8 = 170;
 /// The opening number of every seat.

@@ -6,10 +6,20 @@ mod sides;
 
 use lesson::{liquidity, payment, request, School, ASKED, BANK, DIRECTORY, OTHER_BANK, PATTERN};
 use reference::room::{ROOM_LONG, SEATS, SEAT_LONG, STEPS};
-use sides::{neither, ours, room_with, second, Call, Side, BUFFER_BYTE, OPENING, SLIP_LONG};
+use reference::slip::SLIP_LONG;
+use sides::{neither, ours, room_with, second, Call, Side, BUFFER_BYTE, OPENING};
 
 /// Calls before the clock starts, so that a side finds its own code and data at hand.
 const WARM_CALLS: usize = 2;
+
+/// Seats that are open: one, as many as a room of document 01 has, and all.
+const ONE_SEAT: usize = 1;
+const EIGHT_SEATS: usize = 8;
+const OPEN_SEATS: [usize; 3] = [ONE_SEAT, EIGHT_SEATS, SEATS];
+
+/// Steps in each journal before the call: none, those of the pattern, and all but the last that there may be.
+const ALL_BUT_ONE: u64 = STEPS as u64 - 1;
+const STEPS_BEFORE: [u64; 3] = [0, PATTERN, ALL_BUT_ONE];
 
 fn fail(why: &str) -> ! {
     eprintln!("submit: {}", why);
@@ -36,13 +46,17 @@ const OTHER: usize = 1;
 const COPYING: usize = 2;
 const SIDES: [Side; 3] = [ours, second, neither];
 
+fn seats_in_words(seats: usize) -> String {
+    format!("{} seat{}", seats, if seats == ONE_SEAT { "" } else { "s" })
+}
+
 impl Row {
     fn new(what: &str, steps: u64, seats: usize, call: Call, room: Vec<u64>, answer: u64) -> Row {
         Row { what: what.to_string(), steps, seats, call, room, answer, times: 0, spent: [Vec::new(), Vec::new(), Vec::new()] }
     }
 
     fn name(&self) -> String {
-        format!("{}, {} steps, {} seat{}", self.what, self.steps, self.seats, if self.seats == 1 { "" } else { "s" })
+        format!("{}, {} steps, {}", self.what, self.steps, seats_in_words(self.seats))
     }
 
     /// Nanoseconds of a call alone, in each round.
@@ -73,15 +87,15 @@ fn call(sheet: &str) -> Call {
 fn whole_rows(school: &School) -> Vec<Row> {
     let mut rows = Vec::new();
     for kind in 0..3 {
-        for &steps in &[0, 12, STEPS as u64 - 1] {
-            for &seats in &[1, SEATS] {
+        for steps in STEPS_BEFORE {
+            for seats in OPEN_SEATS {
                 let room = room_with(school, seats, steps);
                 let (what, sheet) = &timed(steps)[kind];
                 rows.push(Row::new(what, steps, seats, call(sheet), room, 0));
             }
         }
     }
-    for &seats in &[1, SEATS] {
+    for seats in OPEN_SEATS {
         let room = room_with(school, seats, STEPS as u64);
         rows.push(Row::new("refused by 9", STEPS as u64, seats, call(&timed(0)[0].1), room, 9));
     }
@@ -91,7 +105,7 @@ fn whole_rows(school: &School) -> Vec<Row> {
 /// Calls of the pacs.008 that stop on the way, each behind more work than the one before.
 fn part_rows(school: &School) -> Vec<Row> {
     let mut rows = Vec::new();
-    for &(steps, seats) in &[(0, 1), (STEPS as u64 - 1, SEATS)] {
+    for (steps, seats) in [(0, ONE_SEAT), (ALL_BUT_ONE, EIGHT_SEATS), (ALL_BUT_ONE, SEATS)] {
         let room = room_with(school, seats, steps);
         let sheet = &timed(steps)[0].1;
         let mut add = |what, change: &dyn Fn(&mut Call, &mut [u64]), answer| {
@@ -216,12 +230,12 @@ fn ratio(these: &[f64], those: &[f64]) -> f64 {
 
 fn print_rows(title: &str, rows: &[Row]) {
     println!("\n{}", title);
-    println!("  {:<32} {:>10} {:>10} {:>10} {:>10} {:>8}", "", "damvurit", "best", "second", "best", "ratio");
+    println!("  {:<34} {:>10} {:>10} {:>10} {:>10} {:>8}", "", "damvurit", "best", "second", "best", "ratio");
     for row in rows {
         let [mine, other] = [MINE, OTHER].map(|side| row.alone(side));
         let best = |spent: &[f64]| spent.iter().cloned().fold(f64::INFINITY, f64::min);
         println!(
-            "  {:<32} {:>10.0} {:>10.0} {:>10.0} {:>10.0} {:>8.2}",
+            "  {:<34} {:>10.0} {:>10.0} {:>10.0} {:>10.0} {:>8.2}",
             row.name(),
             middle(&mine),
             best(&mine),
@@ -244,14 +258,17 @@ fn print_growths(rows: &[Row]) {
     println!("\nGrowth: the time over that of another row, for each side");
     println!("  {:<44} {:>8} {:>8}", "", "damvurit", "second");
     for what in ["pacs.008", "camt.050", "pacs.028"] {
-        for seats in [1, SEATS] {
-            let are = if seats == 1 { "1 seat" } else { "8 seats" };
-            for steps in [12, STEPS as u64 - 1] {
-                print_growth(&format!("{}, {}: {} steps over 0", what, are, steps), find(what, steps, seats), find(what, 0, seats));
+        for seats in [ONE_SEAT, SEATS] {
+            for &steps in &STEPS_BEFORE[1..] {
+                let growth = format!("{}, {}: {} steps over 0", what, seats_in_words(seats), steps);
+                print_growth(&growth, find(what, steps, seats), find(what, 0, seats));
             }
         }
-        for steps in [0, 12, STEPS as u64 - 1] {
-            print_growth(&format!("{}, {} steps: 8 seats over 1", what, steps), find(what, steps, SEATS), find(what, steps, 1));
+        for steps in STEPS_BEFORE {
+            for (fewer, more) in [(ONE_SEAT, EIGHT_SEATS), (EIGHT_SEATS, SEATS)] {
+                let growth = format!("{}, {} steps: {} over {}", what, steps, seats_in_words(more), fewer);
+                print_growth(&growth, find(what, steps, more), find(what, steps, fewer));
+            }
         }
     }
 }
