@@ -24,7 +24,7 @@ use Rattle.seat.specs.declared.calls.Limit.the-variants.{Of, None}
 use Rattle.strike.specs.Strike.{events}
 use Rattle.centre.specs.declared.Ticket.{Ticket}
 use Rattle.centre.specs.Answers.{Told, done, refused, refusedWith}
-use Rattle.demands.specs.Calls.{Act, close, set, submit, takeBack, read, Call, opening, under, writing, reading, newRoom}
+use Rattle.demands.specs.Calls.{close, set, submit, takeBack, read, Call, opening, under, writing, reading, newRoom}
 use Rattle.demands.specs.Seats.{Answer, centre}
 use Rattle.cases.specs.Sheets.{camt050, pacs008, pacs028}
 

@@ -9,7 +9,7 @@ use native.Mathlib.Omega.{arith}
 use native.Mathlib.Numerals.{add-one}
 use lib.Dec.{eqb}
 use lib.ListN.{length, drop}
-use borrow.Author.Tests.{le-leb, eq-eqb}
+use borrow.Author.Tests.{le-leb, le-ltb, eq-eqb}
 use Rattle.shape.proofs.Tests.{and-left, or-left, or-right}
 use Rattle.slip.specs.declared.Slip.{Slip}
 use Rattle.slip.specs.Meaning.{seats, openings, steps, slipLong, says, isSlip}
@@ -118,7 +118,7 @@ slip-good : (x : Slip) (slip : List ℕ) → slipLong ≤ length slip → says (
 unfolding canWrite isSlip
 slip-good x slip room saying seat least most first last =
     rw (
-      le-leb slipLong (length slip) room,
+      le-ltb (length slip) slipLong room,
       saying,
       le-leb (x .seat) (seats - 1) seat,
       le-leb 1 (x .opening) least,

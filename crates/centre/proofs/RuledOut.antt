@@ -6,15 +6,15 @@ use mathlib.Core.Bool.{Bool, true, false, _&&_, _||_, not, false≢true}
 use mathlib.Core.List.{List, [], _∷_}
 use Prim.Native.Nat.{ℕ, suc, _-_, _≤_, _<_}
 use native.Mathlib.Omega.{arith}
-use lib.Dec.{leb, eqb}
+use lib.Dec.{eqb}
 use lib.ListN.{length, getD, drop, replicate}
-use borrow.Author.Tests.{eqb-true, eqb-false, leb-true, not-false}
-use Rattle.shape.proofs.Tests.{and-left, and-right}
+use borrow.Author.Tests.{eqb-true, eqb-false, not-false}
+use Rattle.shape.proofs.Tests.{and-left}
 use Rattle.slip.specs.declared.Slip.{Slip}
 use Rattle.slip.specs.Meaning.{slipLong, openings, steps, fiveBytes, sixBytes, isSlip}
 use Rattle.slip.specs.Image.{slipOf}
 use Rattle.slip.specs.Answers.{canWrite, holdsSlip}
-use Rattle.slip.proofs.Exact.{holds-long}
+use Rattle.slip.proofs.Exact.{holds-long, writable, writable-long}
 use Rattle.directory.specs.declared.Participant.{Participant}
 use Rattle.directory.specs.Directory.{found, isFit, ownerFound}
 use Rattle.layout.specs.declared.rows.Head.{Head}
@@ -208,17 +208,17 @@ module _ (dir : List Participant) (ticket : Ticket) (owner number : ℕ) (room :
 
 -- write a slip
 module _ (slip : Slip) (buffer : List ℕ) where
-  write-passed : told Done ≡ slips.writeTold slip buffer → (leb slipLong (length buffer) && isSlip slip) ≡ true
-  unfolding told slips.writeTold canWrite
+  write-passed : told Done ≡ slips.writeTold slip buffer → canWrite slip buffer ≡ true
+  unfolding told slips.writeTold
   write-passed e = not-false (canWrite slip buffer) (all-passed ((not (canWrite slip buffer), refused 11) ∷ []) (done []) (told Done) refl e .0 .0)
 
   pub writes-into-five-bytes : length buffer < slipLong → told Done ≡ slips.writeTold slip buffer → ⊥
   writes-into-five-bytes h e =
-      let long : slipLong ≤ length buffer = leb-true slipLong (length buffer) (and-left (leb slipLong (length buffer)) (isSlip slip) (write-passed e)) in
+      let long : slipLong ≤ length buffer = writable-long slip buffer (write-passed e) in
       omega arith
 
   pub writes-what-no-slip-says : isSlip slip ≡ false → told Done ≡ slips.writeTold slip buffer → ⊥
-  writes-what-no-slip-says h e = false≢true (sym h ∙ and-right (leb slipLong (length buffer)) (isSlip slip) (write-passed e))
+  writes-what-no-slip-says h e = false≢true (sym h ∙ writable slip buffer (write-passed e))
 
 -- read a slip
 module _ (bytes : List ℕ) (slip : Slip) where

@@ -5,14 +5,14 @@
 use mathlib.Core.Path.{_≡_, refl, sym, ap, _∙_}
 use mathlib.Core.Bool.{Bool, true, false, _&&_, _||_, not, cond, false≢true}
 use mathlib.Core.List.{List, [], _∷_, _++_}
-use Prim.Native.Nat.{ℕ, suc, _+_, _≤_, _<_, _^_}
+use Prim.Native.Nat.{ℕ, suc, _+_, _≤_}
 use native.Mathlib.Omega.{arith}
 use native.Mathlib.Numerals.{add-one}
 use lib.Dec.{leb, ltb, eqb}
-use lib.ListN.{length, getD, take, drop}
+use lib.ListN.{length, take, drop}
 use borrow.Author.Tests.{eqb-false, leb-true, ltb-false, not-false}
 use Rattle.shape.specs.Dates.{isDate}
-use Rattle.shape.proofs.Tests.{and-left, and-right}
+use Rattle.shape.proofs.Tests.{and-left}
 use Rattle.slip.specs.declared.Slip.{Slip}
 use Rattle.table.specs.declared.Kind.{Kind}
 use Rattle.table.specs.declared.Kind.the-variants.{Pacs008, Camt050, Pacs028}
@@ -20,7 +20,7 @@ use Rattle.slip.specs.declared.Status.the-variants.{Rjct}
 use Rattle.slip.specs.Meaning.{slipLong, steps, sixBytes, isSlip, statusNumber}
 use Rattle.slip.specs.Image.{Fits, image, slipOf as slipRead}
 use Rattle.slip.specs.Answers.{canWrite}
-use Rattle.slip.proofs.Exact.{image-first, image-back, written-fits}
+use Rattle.slip.proofs.Exact.{image-first, image-back, written-fits, writable}
 use Rattle.message.specs.declared.Message.{Message}
 use Rattle.message.specs.declared.Answer.{Answer}
 use Rattle.message.specs.declared.Answer.the-variants.{IllFormed, BadField, Good}
@@ -206,10 +206,10 @@ module _ (dir : List Participant) (ticket : Ticket) (sender today : ℕ) (sheet 
           (can .0) (can .1) (can .3) (can .5) (can .2) (can .4)
 
       right-slip : isSlip (slipOf ticket (suc (headOf seatHere .steps)) (stepOn (caseOf dir sender today) answerHere seatHere)) ≡ true
-      unfolding canWrite stepOn
+      unfolding stepOn
       right-slip =
           rw (f, ← add-one (headOf seatHere .steps))
-          (and-right (leb slipLong (length slip)) (isSlip (slipOf ticket (headOf seatHere .steps + 1) (judgedStep caseHere seatHere))) can-write)
+          (writable (slipOf ticket (headOf seatHere .steps + 1) (judgedStep caseHere seatHere)) slip can-write)
 
       -- the step that is stored is that of the outcome
       step-stored : stepOf (seatOf (submitAfter dir ticket sender today sheet slip room) (ticket .seat)) (headOf seatHere .steps) .status

@@ -2,9 +2,8 @@
 -- whole bytes.
 -- Assumes nothing.
 use mathlib.Core.Path.{_≡_, refl}
-use mathlib.Core.Bool.{true, false}
-use mathlib.Core.List.{List, [], _∷_}
-use Prim.Native.Nat.{ℕ}
+use mathlib.Core.Bool.{false}
+use mathlib.Core.List.{[], _∷_}
 use Rattle.shape.specs.Text.{bytes}
 use Rattle.shape.specs.Bytes.{isDigit}
 use Rattle.class.specs.Digits.{inked, inkedFrom, inkIn, wholeBytes, twelveAsBytes, bytesIn}

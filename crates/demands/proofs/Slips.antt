@@ -3,7 +3,7 @@
 -- Assumes nothing.
 use mathlib.Core.Path.{_≡_, refl, sym, ap, _∙_}
 use mathlib.Core.Bool.{Bool, true, false, not, cond}
-use mathlib.Core.List.{List, [], _++_}
+use mathlib.Core.List.{List, []}
 use Prim.Native.Nat.{ℕ}
 use native.Mathlib.Omega.{arith}
 use lib.ListN.{length, take, drop}
@@ -17,7 +17,7 @@ use Rattle.slip.proofs.Small.{five-in-six}
 use Rattle.slip.proofs.Exact.{Shows, image-long, long-form, shown-holds, shown-back, holds-shown, image-six, image-first, writable}
 use Rattle.centre.specs.Answers.{Told, done, refused, slipValues}
 use Rattle.centre.specs.Slips.{writeTold, readTold}
-use Rattle.demands.specs.Messages.{areBytes, OneImage, Slips}
+use Rattle.demands.specs.Messages.{areBytes, Slips}
 
 -- a call that knows one refusal is done where its test holds
 one-row : (t : Bool) (values : List ℕ) → cond (not t) (refused 11) (done values) .number ≡ 0 → t ≡ true

@@ -1,8 +1,8 @@
 -- Case 8 of document 01 in both forms, and how many things a slip can say, worked out over the definitions.
 -- Assumes nothing.
 use mathlib.Core.Path.{_≡_, refl}
-use mathlib.Core.Bool.{Bool, true, false, cond}
-use mathlib.Core.List.{List, [], _∷_}
+use mathlib.Core.Bool.{cond}
+use mathlib.Core.List.{[], _∷_}
 use Prim.Native.Nat.{ℕ, zero, suc, _+_}
 use Rattle.table.specs.declared.Kind.the-variants.{Camt050}
 use Rattle.slip.specs.declared.Form.{Form}

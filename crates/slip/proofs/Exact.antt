@@ -1,15 +1,15 @@
 -- Reading gives values exactly when the bytes are what they are in one of the two forms: slips written are read back the same, and no other
 -- bytes are read as a slip. The law of every sound form, in the form that a length says.
 -- Assumes nothing.
-use mathlib.Core.Path.{_≡_, refl, sym, ap, subst, _∙_}
-use mathlib.Core.Bool.{Bool, true, false, _&&_, cond, false≢true}
+use mathlib.Core.Path.{_≡_, refl, ap, subst, _∙_}
+use mathlib.Core.Bool.{Bool, true, false, _&&_, not, cond, false≢true}
 use mathlib.Core.List.{List, _++_}
 use mathlib.Core.Logic.{_↔_}
-use Prim.Native.Nat.{ℕ}
+use Prim.Native.Nat.{ℕ, _≤_}
 use native.Mathlib.Omega.{arith}
-use lib.Dec.{leb, eqb}
+use lib.Dec.{eqb}
 use lib.ListN.{length, take, drop}
-use borrow.Author.Tests.{eqb-true}
+use borrow.Author.Tests.{ltb-false, eqb-true, not-true}
 use Rattle.shape.proofs.Tests.{and-left, and-right}
 use Rattle.slip.specs.declared.Form.{Form}
 use Rattle.slip.specs.declared.Form.the-variants.{FiveBytes, SixBytes}
@@ -18,7 +18,7 @@ use Rattle.slip.specs.declared.Reading.the-variants.{Holds, NoSlip}
 use Rattle.slip.specs.declared.Writing.the-variants.{Written, NotWritten}
 use Rattle.slip.specs.Meaning.{slipLong, fiveBytes, sixBytes, measures, formOf, isSlipIn, isSlip}
 use Rattle.slip.specs.Image.{Fits, imageIn, heldIn, spareZero, bytesNumber, slipNumber, image, slipOf}
-use Rattle.slip.specs.Answers.{canWrite, writeAnswer, writeAfter, holdsIn, holdsSlip, readAnswer}
+use Rattle.slip.specs.Answers.{bufferShort, canWrite, writeAnswer, writeAfter, holdsIn, holdsSlip, readAnswer}
 use Rattle.slip.proofs.Small.{sound, slip-fits}
 use Rattle.slip.proofs.Forms.{areBytes}
 use Rattle.slip.proofs.Forms as forms
@@ -123,10 +123,15 @@ pub image-read : (f : Slip) → isSlip f ≡ true → readAnswer (image f) ≡ H
 unfolding isSlip
 image-read f e = ap readAnswer (image-six f) ∙ shown-read SixBytes f e
 
--- what can be written is a slip
+-- what can be written is a slip, and the buffer has its bytes
 pub writable : (f : Slip) (buffer : List ℕ) → canWrite f buffer ≡ true → isSlip f ≡ true
 unfolding canWrite
-writable f buffer e = and-right (leb slipLong (length buffer)) (isSlip f) e
+writable f buffer e = and-right (not (bufferShort buffer)) (isSlip f) e
+
+pub writable-long : (f : Slip) (buffer : List ℕ) → canWrite f buffer ≡ true → slipLong ≤ length buffer
+unfolding canWrite
+writable-long f buffer e =
+    ltb-false (length buffer) slipLong (not-true (bufferShort buffer) (and-left (not (bufferShort buffer)) (isSlip f) e))
 
 -- what was written is read back, whatever stands after it
 pub written-read : (f : Slip) (buffer : List ℕ) → writeAnswer f buffer ≡ Written → readAnswer (take slipLong (writeAfter f buffer)) ≡ Holds f

@@ -1,8 +1,7 @@
 -- The measures of the two forms as the code works with them: they are small, and the bits that they cut out are those of the definition.
 -- Assumes nothing.
 use mathlib.Core.Path.{_≡_, refl, _∙_}
-use mathlib.Core.Bool.{_&&_, and-true}
-use mathlib.Core.List.{List}
+use mathlib.Core.Bool.{and-true}
 use Prim.Native.Nat.{ℕ, _+_, _*_, _/_, _%_, _^_, _<_, _≤_}
 use native.Mathlib.Omega.{arith}
 use native.Mathlib.Nat.{one-mul, div-one, mod-one}

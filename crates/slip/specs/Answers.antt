@@ -1,8 +1,8 @@
 -- What writing and reading a slip answer and leave: calls that know refusal 11 alone.
-use mathlib.Core.Bool.{Bool, _&&_, cond}
+use mathlib.Core.Bool.{Bool, _&&_, not, cond}
 use mathlib.Core.List.{List, _++_}
 use Prim.Native.Nat.{ℕ}
-use lib.Dec.{leb, ltb, eqb}
+use lib.Dec.{ltb, eqb}
 use lib.ListN.{length, drop}
 use Rattle.slip.specs.declared.Slip.{Slip}
 use Rattle.slip.specs.declared.Writing.{Writing}
@@ -16,9 +16,9 @@ use Rattle.slip.specs.Image.{heldIn, spareZero, bytesNumber, image, slip
 abbrev pub bufferShort : List ℕ → Bool
 bufferShort buffer = ltb (length buffer) slipLong
 
--- a slip can be written: the buffer has six bytes or more, and the values are a slip's
+-- a slip can be written: the buffer is not too short, and the values are a slip's
 unfoldable pub canWrite : Slip → List ℕ → Bool
-canWrite s buffer = leb slipLong (length buffer) && isSlip s
+canWrite s buffer = not (bufferShort buffer) && isSlip s
 
 unfoldable pub writeAnswer : Slip → List ℕ → Writing
 writeAnswer s buffer = cond (canWrite s buffer) Written NotWritten

@@ -2,7 +2,6 @@
 use mathlib.Core.Path.{_≡_, sym, ap, _∙_}
 use mathlib.Core.Bool.{Bool, _&&_, cond}
 use native.Mathlib.Omega.{arith}
-use Rattle.slip.specs.declared.Reading.{Reading}
 use Rattle.slip.specs.declared.Reading.the-variants.{Holds, NoSlip}
 use Rattle.slip.specs.Answers.{readAnswer}
 use Rattle.slip.proofs.Bytes.{other-length, right-length}

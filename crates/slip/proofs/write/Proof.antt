@@ -1,8 +1,8 @@
 -- The answer follows the two tests; six stores leave the slip in front.
-use mathlib.Core.Path.{_≡_, refl, sym, _∙_}
+use mathlib.Core.Path.{refl, sym, _∙_}
 use native.Mathlib.Omega.{arith}
 use lib.ListN.{length, length-set}
-use borrow.Author.Tests.{le-leb, lt-leb, not-true, not-false}
+use borrow.Author.Tests.{lt-ltb, le-ltb, not-true, not-false}
 use Rattle.slip.specs.Meaning.{slipLong, isSlip}
 use Rattle.slip.specs.Answers.{canWrite, writeAnswer, writeAfter}
 use Rattle.slip.proofs.Exact.{written-fits}
@@ -13,7 +13,7 @@ use Rattle.slip.proofs.write.Tie as tie
 
 returns : tie.Need-returns
 unfolding writeAnswer writeAfter canWrite
-returns c = rw (lt-leb slipLong (length (c .before .before .args .buffer .now)) (c .if1 .taken)) (refl, refl)
+returns c = rw (lt-ltb (length (c .before .before .args .buffer .now)) slipLong (c .if1 .taken)) (refl, refl)
 
 is-slip-requires : tie.Need-is-slip-requires
 is-slip-requires c κs = search needs
@@ -22,7 +22,7 @@ returns-2 : tie.Need-returns-2
 unfolding writeAnswer writeAfter canWrite isSlip
 returns-2 c =
     rw (
-      le-leb slipLong (length (c .before .before .before .before .args .buffer .now)) (c .before .before .if1 .left),
+      le-ltb (length (c .before .before .before .before .args .buffer .now)) slipLong (c .before .before .if1 .left),
       sym (c .before .is-slip .ensures) ∙ not-true _ (c .if2 .taken),
     )
     (refl, refl)
@@ -101,7 +101,7 @@ returns-3 c =
     let at = c .before .before .before .before .before .args in
     let long = c .before .before .before .if1 .left in
     rw (
-      le-leb slipLong (length (at .buffer .now)) long,
+      le-ltb (length (at .buffer .now)) slipLong long,
       sym (c .before .before .is-slip .ensures) ∙ not-false _ (c .before .if2 .left),
     )
     (refl, stored (at .s) (at .buffer .now) (c .number-of .result) (c .number-of .ensures) long)
