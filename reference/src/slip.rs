@@ -15,7 +15,7 @@ pub struct Form {
     pub long: usize,
     /// The bits of kind, status, check, seat, opening and step.
     widths: [u32; 6],
-    /// How many bits behind the step must be zero.
+    /// How many bits after the step must be zero.
     pub zero_bits: u32,
     /// They are for seats below this.
     pub seats: u64,

@@ -483,7 +483,7 @@ static void refusal_2(void) {
     keep_room();
     same(damvurit_open(LENT(room), seventeen, 16 * RECORD, 0, (const uint64_t[32]){0}, 32), with(0, 1), "2: 16 records are not refused");
     keep_room();
-    refused(damvurit_set(LENT(room), NULL, 0, DAMVURIT_SEATS, 0, 0, 0, 2, 2, 0, 0), 2, "2: setting, with all behind it bad too");
+    refused(damvurit_set(LENT(room), NULL, 0, DAMVURIT_SEATS, 0, 0, 0, 2, 2, 0, 0), 2, "2: setting, with all after it bad too");
     camt050(300001, '1', MORNING, "1.00");
     not_taken(submitted_with(NULL, 0, 300001, TODAY, sizeof slip), 2, "2: submitting");
     not_read(read_with(NULL, 0, seat, opening, 300001, 1), 2, "2: reading");
