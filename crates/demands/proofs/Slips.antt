@@ -11,13 +11,13 @@ use Rattle.slip.specs.declared.Form.{Form}
 use Rattle.slip.specs.declared.Form.the-variants.{SixBytes}
 use Rattle.slip.specs.declared.Slip.{Slip}
 use Rattle.slip.specs.Meaning.{slipLong, measures, formOf, isSlipIn, isSlip}
-use Rattle.slip.specs.Image.{slipFrom, imageIn, image, slipOf}
+use Rattle.slip.specs.Image.{areBytes, slipFrom, imageIn, image, slipOf}
 use Rattle.slip.specs.Answers.{canWrite, writeAfter, holdsSlip}
 use Rattle.slip.proofs.Small.{five-in-six}
 use Rattle.slip.proofs.Exact.{Shows, image-long, long-form, shown-holds, shown-back, holds-shown, image-six, image-first, writable}
 use Rattle.centre.specs.Answers.{Told, done, refused, slipValues}
 use Rattle.centre.specs.Slips.{writeTold, readTold}
-use Rattle.demands.specs.Messages.{areBytes, Slips}
+use Rattle.demands.specs.Messages.{Slips}
 
 -- a call that knows one refusal is done where its test holds
 one-row : (t : Bool) (values : List ℕ) → cond (not t) (refused 11) (done values) .number ≡ 0 → t ≡ true

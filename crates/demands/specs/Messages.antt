@@ -5,7 +5,7 @@ use mathlib.Core.Bool.{Bool, true, not, _&&_, cond}
 use mathlib.Core.List.{List, [], _∷_, _++_}
 use mathlib.Core.Path.{_≡_}
 use Prim.Native.Nat.{ℕ, suc, _≤_, _<_}
-use lib.Dec.{ltb, eqb}
+use lib.Dec.{eqb}
 use lib.ListN.{length, take, drop}
 use Rattle.shape.specs.Bytes.{every}
 use Rattle.shape.specs.declared.value.Value.the-variants.{Of}
@@ -18,7 +18,7 @@ use Rattle.slip.specs.declared.Status.the-variants.{Pdng, Accc, Rjct}
 use Rattle.slip.specs.declared.Form.{Form}
 use Rattle.slip.specs.declared.Form.the-variants.{FiveBytes, SixBytes}
 use Rattle.slip.specs.Meaning.{steps, slipLong, kindNumber, statusNumber, measures, isSlipIn, isSlip}
-use Rattle.slip.specs.Image.{imageIn, image}
+use Rattle.slip.specs.Image.{areBytes, imageIn, image}
 use Rattle.slip.specs.Answers.{writeAfter}
 use Rattle.message.specs.declared.Message.{Message}
 use Rattle.message.specs.declared.Answer.{Answer}
@@ -201,10 +201,6 @@ module _ (dir : List Participant) (ticket : Ticket) (sender today : ℕ) (sheet 
     pub message : Message
     pub good : received ≡ Good message
     pub judged : Judged message
-
--- every element is a byte
-abbrev pub areBytes : List ℕ → Bool
-areBytes bytes = every (λ (b : ℕ). ltb b 256) bytes
 
 -- a slip of a form is read from its bytes there, and from no others of their length
 pub record OneImage (form : Form) (slip : Slip) : Type 0 where

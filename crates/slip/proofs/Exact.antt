@@ -17,16 +17,14 @@ use Rattle.slip.specs.declared.Slip.{Slip}
 use Rattle.slip.specs.declared.Reading.the-variants.{Holds, NoSlip}
 use Rattle.slip.specs.declared.Writing.the-variants.{Written, NotWritten}
 use Rattle.slip.specs.Meaning.{slipLong, fiveBytes, sixBytes, measures, formOf, isSlipIn, isSlip}
-use Rattle.slip.specs.Image.{Fits, imageIn, heldIn, spareZero, bytesNumber, slipNumber, image, slipOf}
+use Rattle.slip.specs.Image.{areBytes, Fits, imageIn, heldIn, spareZero, bytesNumber, slipNumber, image, slipOf}
 use Rattle.slip.specs.Answers.{bufferShort, canWrite, writeAnswer, writeAfter, holdsIn, holdsSlip, readAnswer}
 use Rattle.slip.proofs.Small.{sound, slip-fits}
-use Rattle.slip.proofs.Forms.{areBytes}
 use Rattle.slip.proofs.Forms as forms
 
 -- a slip's bytes in a form are as many as it has, and their number says the form
 pub image-long : (form : Form) (f : Slip) → length (imageIn (measures form) f) ≡ measures form .long
-image-long FiveBytes f = refl
-image-long SixBytes f = refl
+image-long form f = forms.image-long (measures form) f
 
 pub long-form : (form : Form) → formOf (measures form .long) ≡ form
 long-form FiveBytes = refl

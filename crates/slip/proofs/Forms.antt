@@ -15,14 +15,10 @@ use Rattle.shape.proofs.Bits.{widths, Small, cut-joined, joined-cut, joined-sma
 use Rattle.shape.proofs.Tests.{and-left, and-right}
 use Rattle.slip.specs.declared.Slip.{Slip}
 use Rattle.slip.specs.Meaning.{Measures, isSlipIn}
-use Rattle.slip.specs.Image.{byteWide, byteFields, values, spareWidths, spareFields, widthsIn, fieldsIn}
+use Rattle.slip.specs.Image.{byteWide, areBytes, byteFields, values, spareWidths, spareFields, widthsIn, fieldsIn}
 use Rattle.slip.specs.Image.{Fits, numberIn, bytesIn, imageIn, slipFrom, heldIn, spareZero, bytesNumber}
 use Rattle.slip.specs.Answers.{holdsIn}
 use Rattle.slip.proofs.Small.{Sound, slip-fits, fields-small}
-
--- every element is a byte
-abbrev pub areBytes : List ℕ → Bool
-areBytes s = every (λ (b : ℕ). ltb b (2 ^ byteWide)) s
 
 bytes-small : (s : List ℕ) → areBytes s ≡ true → Small (byteFields s)
 bytes-small [] e = tt
@@ -46,6 +42,10 @@ bytes-total (suc k) = ap (λ (n : ℕ). byteWide + n) (bytes-total k) ∙ omega 
 cut-length : (k n : ℕ) → length (values (cut (replicate k byteWide) n)) ≡ k
 cut-length zero n = refl
 cut-length (suc k) n = ap suc (cut-length k n)
+
+-- so a slip has as many bytes in a form as that has
+pub image-long : (form : Measures) (s : Slip) → length (imageIn form s) ≡ form .long
+image-long form s = cut-length (form .long) (numberIn form s)
 
 cut-fields : (k n : ℕ) → byteFields (values (cut (replicate k byteWide) n)) ≡ cut (replicate k byteWide) n
 cut-fields zero n = refl
@@ -133,7 +133,7 @@ module _ (form : Measures) (sound : Sound form) where
       let fits = slip-fits form sound f e in
       let n = bytesNumber (imageIn form f) in
       both (eqb (length (imageIn form f)) (form .long)) (spareZero form n && isSlipIn form (heldIn form n))
-      (eq-eqb (length (imageIn form f)) (form .long) (cut-length (form .long) (numberIn form f)))
+      (eq-eqb (length (imageIn form f)) (form .long) (image-long form f))
       (both (spareZero form n) (isSlipIn form (heldIn form n)) (image-zeros f fits)
       (subst (λ (v : Slip). isSlipIn form v ≡ true) (sym (image-back f fits)) e))
 

@@ -3,7 +3,7 @@
 use mathlib.Core.Bool.{Bool}
 use mathlib.Core.List.{List, [], _∷_, map}
 use Prim.Native.Nat.{ℕ, zero, suc, _<_, _^_}
-use lib.Dec.{eqb}
+use lib.Dec.{ltb, eqb}
 use lib.ListN.{length, getD, replicate}
 use Rattle.shape.specs.Bits.{joined, cut}
 use Rattle.shape.specs.Bytes.{every}
@@ -75,6 +75,10 @@ heldIn form n = slipFrom (values (cut (widthsIn form) n))
 -- its bits after the values are zero
 abbrev pub spareZero : Measures → ℕ → Bool
 spareZero form n = every (λ (v : ℕ). eqb v 0) (values (cut (spareWidths (form .spare)) n))
+
+-- every element is a byte
+abbrev pub areBytes : List ℕ → Bool
+areBytes bytes = every (λ (b : ℕ). ltb b (2 ^ byteWide)) bytes
 
 -- bytes as one number
 abbrev pub bytesNumber : List ℕ → ℕ
