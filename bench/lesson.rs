@@ -1,4 +1,4 @@
-//! What is played: a directory, sheets of the three kinds, and the steps of a journal.
+//! What is played: a directory, sheets of the four kinds, and the steps of a journal.
 
 use reference::directory::{Kind, Record};
 
@@ -128,6 +128,13 @@ pub fn request(number: u64, sender: u64, original: u64) -> String {
     element("Document", &element("FIToFIPmtStsReq", &body))
 }
 
+/// A pacs.002 by which the receiver of a pacs.008 accepts it.
+pub fn acceptance(number: u64, receiver: u64, sender: u64, original: u64) -> String {
+    let group = element("OrgnlMsgId", &identifier(sender, original)) + &element("GrpSts", "ACCP");
+    let body = header("GrpHdr", receiver, number, "") + &element("OrgnlGrpInfAndSts", &group);
+    element("Document", &element("FIToFIPmtStsRpt", &body))
+}
+
 // ---- The journals: the same twelve steps over and over ----
 
 pub enum Step {
@@ -136,8 +143,12 @@ pub enum Step {
 }
 
 pub const PATTERN: u64 = 12;
-/// The pacs.008 of the pattern that the timed pacs.028 asks about: one of its last steps, counted from 1.
-pub const ASKED: u64 = 11;
+
+// Two pacs.008 of the pattern, as steps counted from 1.
+/// From `OTHER_BANK` to `BANK`: it waits, and gets no answer.
+pub const UNANSWERED: u64 = 3;
+/// From `BANK`: the step after it settles it.
+pub const SETTLED: u64 = 9;
 
 fn message(sender: u64, sheet: String) -> Step {
     Step::Message { sender, sheet }
@@ -147,33 +158,34 @@ fn message(sender: u64, sheet: String) -> Step {
 pub fn step(number: u64) -> Step {
     let back = |steps| number - steps;
     match (number - 1) % PATTERN {
-        0 => message(BANK, payment(number, BANK, OTHER_BANK, ("SEP", OTHER_BANK), 125_075)),
+        0 => message(BANK, payment(number, BANK, OTHER_BANK, ("SEP", OTHER_BANK), 900_000_000)), // more than there is
         1 => message(BANK, liquidity(number, BANK, (1, 2), 1_000_000)),
-        2 => message(OTHER_BANK, payment(number, OTHER_BANK, THIRD_BANK, ("SEP", THIRD_BANK), 40_000)),
-        3 => message(BANK, request(number, BANK, back(3))),
+        2 => message(OTHER_BANK, payment(number, OTHER_BANK, BANK, ("SEP", BANK), 40_000)), // unanswered
+        3 => message(OTHER_BANK, acceptance(number, OTHER_BANK, BANK, back(3))),
         4 => Step::Set { owner: THIRD_BANK, account: 2, ltk: 10_000, limit: None },
-        5 => message(BANK, payment(number, BANK, OTHER_BANK, ("SEP", OTHER_BANK), 900_000_000)), // more than there is
-        6 => message(BANK, request(number, BANK, back(1))),
-        7 => message(BANK, payment(number, BANK, OTHER_BANK, ("ASP", PROVIDER), 65_000)),
-        8 => message(BANK, liquidity(number, BANK, (1, 1), 1_000_000)), // to the account that it comes from
-        9 => Step::Set { owner: BANK, account: 2, ltk: 10_000, limit: Some(400_000_000) },
-        10 => message(BANK, payment(number, BANK, THIRD_BANK, ("SEP", THIRD_BANK), 7_250)),
-        _ => message(BRANCH, request(number, BRANCH, 999_999)), // about what was never sent
+        5 => message(BRANCH, request(number, BRANCH, 999_999)), // about what was never sent
+        6 => message(BANK, payment(number, BANK, THIRD_BANK, ("SEP", THIRD_BANK), 7_250)), // unanswered
+        7 => message(BANK, liquidity(number, BANK, (1, 1), 1_000_000)), // to the account that it comes from
+        8 => message(BANK, payment(number, BANK, OTHER_BANK, ("ASP", PROVIDER), 65_000)),
+        9 => message(OTHER_BANK, acceptance(number, OTHER_BANK, BANK, back(1))),
+        10 => Step::Set { owner: BANK, account: 2, ltk: 10_000, limit: Some(400_000_000) },
+        _ => message(BANK, request(number, BANK, back(3))),
     }
 }
 
-/// Kind, status and check of the twelve steps, as a room keeps them: 1 pacs.008, 2 camt.050, 3 pacs.028, 4 a set; 1 ACCC, 2 RJCT.
+/// Kind, status and check of the twelve steps, as a room keeps them: 1 pacs.008, 2 camt.050, 3 pacs.028, 4 pacs.002, 5 a set; 0 PDNG,
+/// 1 ACCC, 2 RJCT, 3 waits. An answer leaves the row of its pacs.008 as it is, and a set has no status.
 pub const PATTERN_GIVES: [[u64; 3]; PATTERN as usize] = [
-    [1, 1, 0],
+    [1, 3, 0],
     [2, 1, 0],
-    [1, 1, 0],
-    [3, 1, 0],
-    [4, 0, 0],
-    [1, 2, 22],
-    [3, 2, 22],
-    [1, 1, 0],
-    [2, 2, 15],
-    [4, 0, 0],
-    [1, 1, 0],
+    [1, 3, 0],
+    [4, 2, 22],
+    [5, 0, 0],
     [3, 0, 10],
+    [1, 3, 0],
+    [2, 2, 15],
+    [1, 3, 0],
+    [4, 1, 0],
+    [5, 0, 0],
+    [3, 1, 0],
 ];

@@ -4,9 +4,9 @@
 mod lesson;
 mod sides;
 
-use lesson::{liquidity, payment, request, School, ASKED, BANK, DIRECTORY, OTHER_BANK, PATTERN};
-use reference::room::{ROOM_LONG, SEATS, SEAT_LONG, STEPS};
-use reference::slip::SLIP_LONG;
+use lesson::{acceptance, liquidity, payment, request, School, BANK, DIRECTORY, OTHER_BANK, PATTERN, SETTLED, UNANSWERED};
+use reference::room::{ANSWER, LIQUIDITY, PAYMENT, REQUEST, ROOM_LONG, SEATS, SEAT_LONG, STEPS};
+use reference::slip::{Slip, ACCC, PDNG, RJCT, SLIP_LONG, WAITS};
 use sides::{neither, ours, room_with, second, Call, Side, BUFFER_BYTE, OPENING};
 
 /// Calls before the clock starts, so that a side finds its own code and data at hand.
@@ -28,14 +28,30 @@ fn fail(why: &str) -> ! {
 
 // ---- The rows ----
 
+/// What a call must come to on both sides.
+enum Meant {
+    /// The number of a refusal, and 256 times its detail.
+    Refused(u64),
+    /// A step: its kind, status and check.
+    Taken([u64; 3]),
+}
+
+impl Meant {
+    fn answer(&self) -> u64 {
+        match self {
+            Meant::Refused(answer) => *answer,
+            Meant::Taken(_) => 0,
+        }
+    }
+}
+
 struct Row {
     what: String,
     steps: u64,
     seats: usize,
     call: Call,
     room: Vec<u64>,
-    /// The answer that both sides must give.
-    answer: u64,
+    meant: Meant,
     times: usize,
     /// Nanoseconds of a call with the copying back before it, in each round: ours, the second engine's, and the copying alone.
     spent: [Vec<f64>; 3],
@@ -51,12 +67,23 @@ fn seats_in_words(seats: usize) -> String {
 }
 
 impl Row {
-    fn new(what: &str, steps: u64, seats: usize, call: Call, room: Vec<u64>, answer: u64) -> Row {
-        Row { what: what.to_string(), steps, seats, call, room, answer, times: 0, spent: [Vec::new(), Vec::new(), Vec::new()] }
+    fn new(what: &str, steps: u64, seats: usize, call: Call, room: Vec<u64>, meant: Meant) -> Row {
+        Row { what: what.to_string(), steps, seats, call, room, meant, times: 0, spent: [Vec::new(), Vec::new(), Vec::new()] }
     }
 
     fn name(&self) -> String {
         format!("{}, {} steps, {}", self.what, self.steps, seats_in_words(self.seats))
+    }
+
+    /// Whether a slip is that of the step meant; with a refusal no slip is written.
+    fn is_slip(&self, slip: &[u8]) -> bool {
+        match self.meant {
+            Meant::Refused(_) => slip.iter().all(|byte| *byte == BUFFER_BYTE),
+            Meant::Taken([kind, status, check]) => {
+                let values = [kind, status, check, self.call.seat, self.call.opening, self.steps + 1];
+                Slip::read(slip).map(|slip| slip.values()) == Some(values)
+            }
+        }
     }
 
     /// Nanoseconds of a call alone, in each round.
@@ -69,14 +96,39 @@ impl Row {
 /// The number of the timed message: above those of the journal.
 const TIMED: u64 = 500;
 
-/// The timed messages: their kinds and sheets. A pacs.028 asks about the last pacs.008 of its sender that was carried out.
-fn timed(steps: u64) -> [(&'static str, String); 3] {
-    let asked = if steps < ASKED { ASKED } else { ASKED + (steps - ASKED) / PATTERN * PATTERN };
+/// A timed message: its kind in words, and the kind, status and check of the step that it makes.
+struct Timed {
+    what: &'static str,
+    sheet: String,
+    gives: [u64; 3],
+}
+
+const KINDS: usize = 4;
+
+/// The last pacs.008 of `BANK` that was settled, or one that was never sent where none was.
+fn last_settled(steps: u64) -> u64 {
+    SETTLED + steps.saturating_sub(SETTLED + 1) / PATTERN * PATTERN
+}
+
+/// The timed messages, one of each kind, all from `BANK`. The pacs.028 asks about the last transfer that was settled; the pacs.002 accepts
+/// the first that waits for its sender.
+fn timed(steps: u64) -> [Timed; KINDS] {
+    let has = |number| steps >= number;
+    let asked = if has(SETTLED + 1) { [REQUEST, ACCC, 0] } else { [REQUEST, PDNG, 10] };
+    let answered = if has(UNANSWERED) { [ANSWER, ACCC, 0] } else { [ANSWER, RJCT, 35] };
+    let transfer = payment(TIMED, BANK, OTHER_BANK, ("SEP", OTHER_BANK), 125_075);
     [
-        ("pacs.008", payment(TIMED, BANK, OTHER_BANK, ("SEP", OTHER_BANK), 125_075)),
-        ("camt.050", liquidity(TIMED, BANK, (1, 2), 1_000_000)),
-        ("pacs.028", request(TIMED, BANK, asked)),
+        Timed { what: "pacs.008", sheet: transfer, gives: [PAYMENT, WAITS, 0] },
+        Timed { what: "camt.050", sheet: liquidity(TIMED, BANK, (1, 2), 1_000_000), gives: [LIQUIDITY, ACCC, 0] },
+        Timed { what: "pacs.028", sheet: request(TIMED, BANK, last_settled(steps)), gives: asked },
+        Timed { what: "pacs.002", sheet: acceptance(TIMED, BANK, OTHER_BANK, UNANSWERED), gives: answered },
     ]
+}
+
+/// The timed pacs.008: with any number of steps it is the same.
+fn timed_payment() -> Timed {
+    let [first, ..] = timed(0);
+    first
 }
 
 fn call(sheet: &str) -> Call {
@@ -86,18 +138,18 @@ fn call(sheet: &str) -> Call {
 /// Whole submits of each kind, and the refusal of the one that finds the journal full.
 fn whole_rows(school: &School) -> Vec<Row> {
     let mut rows = Vec::new();
-    for kind in 0..3 {
+    for kind in 0..KINDS {
         for steps in STEPS_BEFORE {
             for seats in OPEN_SEATS {
                 let room = room_with(school, seats, steps);
-                let (what, sheet) = &timed(steps)[kind];
-                rows.push(Row::new(what, steps, seats, call(sheet), room, 0));
+                let message = &timed(steps)[kind];
+                rows.push(Row::new(message.what, steps, seats, call(&message.sheet), room, Meant::Taken(message.gives)));
             }
         }
     }
     for seats in OPEN_SEATS {
         let room = room_with(school, seats, STEPS as u64);
-        rows.push(Row::new("refused by 9", STEPS as u64, seats, call(&timed(0)[0].1), room, 9));
+        rows.push(Row::new("refused by 9", STEPS as u64, seats, call(&timed_payment().sheet), room, Meant::Refused(9)));
     }
     rows
 }
@@ -105,26 +157,26 @@ fn whole_rows(school: &School) -> Vec<Row> {
 /// Calls of the pacs.008 that stop on the way, each behind more work than the one before.
 fn part_rows(school: &School) -> Vec<Row> {
     let mut rows = Vec::new();
+    let Timed { sheet, gives, .. } = timed_payment();
     for (steps, seats) in [(0, ONE_SEAT), (ALL_BUT_ONE, EIGHT_SEATS), (ALL_BUT_ONE, SEATS)] {
         let room = room_with(school, seats, steps);
-        let sheet = &timed(steps)[0].1;
-        let mut add = |what, change: &dyn Fn(&mut Call, &mut [u64]), answer| {
-            let (mut call, mut room) = (call(sheet), room.clone());
+        let mut add = |what, change: &dyn Fn(&mut Call, &mut [u64]), meant| {
+            let (mut call, mut room) = (call(&sheet), room.clone());
             change(&mut call, &mut room);
-            rows.push(Row::new(what, steps, seats, call, room, answer));
+            rows.push(Row::new(what, steps, seats, call, room, meant));
         };
-        add("refused by 1", &|_, room| room[ROOM_LONG - 1] = 1, 1);
-        add("refused by 3", &|call, _| call.opening = OPENING + 1, 3);
-        add("refused by 7", &|call, _| call.sheet.push(b'x'), 7 + 256 * sheet.len() as u64);
+        add("refused by 1", &|_, room| room[ROOM_LONG - 1] = 1, Meant::Refused(1));
+        add("refused by 3", &|call, _| call.opening = OPENING + 1, Meant::Refused(3));
+        add("refused by 7", &|call, _| call.sheet.push(b'x'), Meant::Refused(7 + 256 * sheet.len() as u64));
         let last = sheet.replace("UA723", "ua723");
-        add("refused by 8", &|call, _| call.sheet = last.as_bytes().to_vec(), 8 + 256 * 14);
-        add("refused by 12", &|call, _| call.sender = 999_999, 12 + 256);
-        add("taken", &|_, _| (), 0);
+        add("refused by 8", &|call, _| call.sheet = last.as_bytes().to_vec(), Meant::Refused(8 + 256 * 14));
+        add("refused by 12", &|call, _| call.sender = 999_999, Meant::Refused(12 + 256));
+        add("taken", &|_, _| (), Meant::Taken(gives));
     }
     rows
 }
 
-/// Both sides must give the answer meant, and the same room and slip.
+/// Both sides must give the answer and the slip meant, and the same room.
 fn agree(school: &School, row: &Row) {
     let mut results = Vec::new();
     for side in &SIDES[..COPYING] {
@@ -133,11 +185,12 @@ fn agree(school: &School, row: &Row) {
         results.push((answer, slip, room));
     }
     let (mine, other) = (&results[MINE], &results[OTHER]);
-    if mine.0 != other.0 || mine.0 != row.answer {
-        fail(&format!("{}: ours answers {}, the second engine {}, meant is {}", row.name(), mine.0, other.0, row.answer));
+    let answer = row.meant.answer();
+    if mine.0 != answer || other.0 != answer {
+        fail(&format!("{}: ours answers {}, the second engine {}, meant is {}", row.name(), mine.0, other.0, answer));
     }
-    if mine.1 != other.1 {
-        fail(&format!("{}: the slips differ: ours {:?}, the second engine's {:?}", row.name(), mine.1, other.1));
+    if mine.1 != other.1 || !row.is_slip(&mine.1) {
+        fail(&format!("{}: the slips differ, or are not as meant: ours {:02x?}, the second engine's {:02x?}", row.name(), mine.1, other.1));
     }
     if let Some(place) = (0..ROOM_LONG).find(|place| mine.2[*place] != other.2[*place]) {
         fail(&format!(
@@ -177,7 +230,7 @@ fn now() -> f64 {
 /// Nanoseconds of a call, with copying the seat back before it.
 fn nanoseconds(side: usize, school: &School, row: &Row, room: &mut [u64], times: usize) -> f64 {
     let call = SIDES[side];
-    let answer = if side == COPYING { 0 } else { row.answer };
+    let answer = if side == COPYING { 0 } else { row.meant.answer() };
     let mut slip = [BUFFER_BYTE; SLIP_LONG];
     let mut run = |times: usize| {
         let mut sum = 0u64;
@@ -257,7 +310,7 @@ fn print_growths(rows: &[Row]) {
     };
     println!("\nGrowth: the time over that of another row, for each side");
     println!("  {:<44} {:>8} {:>8}", "", "damvurit", "second");
-    for what in ["pacs.008", "camt.050", "pacs.028"] {
+    for Timed { what, .. } in timed(0) {
         for seats in [ONE_SEAT, SEATS] {
             for &steps in &STEPS_BEFORE[1..] {
                 let growth = format!("{}, {}: {} steps over 0", what, seats_in_words(seats), steps);
@@ -287,7 +340,7 @@ fn main() {
     measure(&school, &mut whole, rounds, slice);
     measure(&school, &mut parts, rounds, slice);
     println!("{} rounds of {} ms for each side in each row, in turns; {} records in the directory", rounds, slice, DIRECTORY.len());
-    println!("sheets: {}", timed(0).iter().map(|(what, sheet)| format!("{} {} bytes", what, sheet.len())).collect::<Vec<_>>().join(", "));
+    println!("sheets: {}", timed(0).map(|message| format!("{} {} bytes", message.what, message.sheet.len())).join(", "));
     println!("both sides gave the same answer, room and slip in every row");
     print_rows("A whole submit: nanoseconds, median and best of the rounds", &whole);
     print_growths(&whole);

@@ -1,13 +1,13 @@
 /*
- * Damvurit for C: a practice centre for payment clerks. Twelve pupils share a room, each in a seat; a pupil submits pacs.008, camt.050 and
- * pacs.028 messages and gets the answer of the payment system as a slip of six bytes.
+ * Damvurit for C: a practice centre for payment clerks. Twelve pupils share a room, each in a seat; a pupil submits pacs.008, camt.050,
+ * pacs.028 and pacs.002 messages and gets the answer of the payment system as a slip of six bytes.
  *
  * Link libdamvurit.a (x86-64 Linux); of the C library it uses memcpy and memset alone. What each function answers and leaves is proved: its
  * contract stands with its name in crates/damvurit/src/lib.rt, and holds for every input. What this page asks of memory and threads is the
  * caller's part.
  *
  * Memory. The caller owns all of it. Nothing is allocated and nothing is kept: when a call has returned, it knows no pointer any more. A pointer
- * reaches as many elements as the length behind it says, and is aligned for them. Where the length is 0 nothing is read or written through the
+ * reaches as many elements as the length after it says, and is aligned for them. Where the length is 0 nothing is read or written through the
  * pointer, and it may be null. `out` has no length: it reaches seven or six numbers and is never null. Buffers that one call is lent do not overlap,
  * unless both are const. A call takes some 16 KB of stack (measured, not proved).
  *
@@ -28,7 +28,7 @@ extern "C" {
 #endif
 
 /* How many numbers a room has, to declare one; damvurit_room_size() is the authority. A room of another length is unfit. */
-#define DAMVURIT_ROOM_SIZE 11076
+#define DAMVURIT_ROOM_SIZE 11652
 
 /* How many seats a room has: 0 to 11. */
 #define DAMVURIT_SEATS 12
@@ -90,29 +90,35 @@ uint64_t damvurit_set(uint64_t *room, size_t n, const uint64_t *dir, size_t d, u
  * Submits a sheet of m bytes for a sender on a date (yyyymmdd, 2000 to 2099). A message that is taken is one step, carried out or not, and its slip
  * stands in the first six bytes of the slip buffer, which has l bytes, six or more; the bytes after them stay. Answers 0, 1, 2, 3, 6, 11, 9, 7 with
  * the place, 8 with the field or 12 with the check.
+ *
+ * A pacs.008 that fails no check waits, and moves no money. A pacs.002 of the bank that its InstdAgt names settles or rejects it, with a step and a
+ * slip of its own; the slip of the pacs.008 stays what it was. The money checks run then, on the accounts and the amount that the pacs.008 was sent
+ * with, whichever directory comes with the pacs.002.
  */
 uint64_t damvurit_submit(uint64_t *room, size_t n, const uint64_t *dir, size_t d, uint64_t seat, uint64_t opening, uint64_t sender, uint64_t date,
                          const uint8_t *sheet, size_t m, uint8_t *slip, size_t l);
 
-/* Takes back the last step of a seat. Answers 0, 1, 3 or 10. */
+/* Takes back the last step of a seat; where that answered a transfer, it waits again. Answers 0, 1, 3 or 10. */
 uint64_t damvurit_take_back(uint64_t *room, size_t n, uint64_t seat, uint64_t opening);
 
 /*
  * Reads an account, 1 or 2, of an owner. `out` gets the opening sum, the balance, the turnover, block outgoing, block incoming, LTK and LPO (0 for
- * none, n + 1 for n), or zeros. Answers 0, 1, 2, 3 or 6.
+ * none, n + 1 for n), or zeros. A transfer that waits shows in no account. Answers 0, 1, 2, 3 or 6.
  */
 uint64_t damvurit_read(const uint64_t *room, size_t n, const uint64_t *dir, size_t d, uint64_t seat, uint64_t opening, uint64_t owner,
                        uint64_t account, uint64_t out[7]);
 
 /*
- * Writes a slip into the first six bytes of a buffer of l bytes, six or more; those after them stay. Kind 1 pacs.008, 2 camt.050, 3 pacs.028;
- * status 0 PDNG, 1 ACCC, 2 RJCT; check 0 to 34; seat 0 to 11; opening 1 to 65,535; step 1 to 24. Answers 0 or 11.
+ * Writes a slip into the first six bytes of a buffer of l bytes, six or more; those after them stay. Kind 1 pacs.008, 2 camt.050, 3 pacs.028,
+ * 4 pacs.002; status 0 PDNG, 1 ACCC, 2 RJCT, 3 it waits; check 0 to 37, one that the kind and the status can have; seat 0 to 11; opening 1 to 65,535;
+ * step 1 to 24. Answers 0 or 11.
  */
 uint64_t damvurit_write_slip(uint64_t kind, uint64_t status, uint64_t check, uint64_t seat, uint64_t opening, uint64_t step, uint8_t *slip, size_t l);
 
 /*
  * Reads a slip of l bytes, exactly five or exactly six: the length alone says the form, and a five-byte slip with a byte after it may be a slip that
- * says something else. `out` gets kind, status, check, seat, opening and step, the same six numbers from either form, or zeros. Answers 0 or 11.
+ * says something else. `out` gets kind, status, check, seat, opening and step, the same six numbers from either form, or zeros. Five bytes know
+ * kinds 1 to 3, status 0 to 2, checks 0 to 34 and seats 0 to 7 alone. Answers 0 or 11.
  */
 uint64_t damvurit_read_slip(const uint8_t *slip, size_t l, uint64_t out[6]);
 

@@ -1,31 +1,33 @@
-"""The practice centre worked out a second time from document 01 and request 8 of document 02: the directory, a room of twelve seats, the
-calls with their refusals and the 34 checks. Shapes, sheets and fields are those of `second.py` and `messages.py`, slips are those of
-`slips.py`; nothing is taken from the Rattle code.
+"""The practice centre worked out a second time from document 01 and requests 8 and 9 of document 02: the directory, a room of twelve seats,
+the calls with their refusals and the 37 checks. Shapes, sheets and fields are those of `second.py` and `messages.py`, seats those of
+`journal.py`, slips those of `slips.py`; nothing is taken from the Rattle code.
 
-Fitness is not worked out: a room counts as unfit from a poke on, until that place has its number again. Only an opening number may be
-poked to another one, since any number in its range is as fit as the one that was given out."""
-import copy
+Fitness is not worked out: a room counts as unfit from a poke on, until that place has its number again. Two things may be poked to
+something else, since what is poked is as fit as what was there: an opening number, to another in its range, and a part of a step's MsgId,
+to that part of another identifier as long."""
 import datetime
 from collections import namedtuple
 
+from journal import ID_FROM, ID_LONG, NO_MOVEMENT, ROOM_LONG, SEAT_LONG, SET, STEP_LONG, STEPS_FROM, Seat, Step, renamed, set_step
 from messages import KINDS, received
-from second import kopecks_in, name_as, read, real_date, stored_as, time_in
-from slips import ACCC, CAMT_050, KIND_NUMBERS, OPENINGS, ORDERS, PACS_008, PACS_028, PDNG, RJCT, SEATS, STEPS, WRITTEN, write_slip
+from second import kopecks_in, name_as, read, real_date
+from slips import (ACCC, CAMT_050, KIND_NUMBERS, OPENINGS, ORDERS, PACS_002, PACS_008, PACS_028, PDNG, RJCT, SEATS, STEPS, WAITS, WRITTEN,
+                   write_slip)
 
-# How many numbers a seat and a room have, and the highest sum, in kopecks.
-SEAT_LONG, MOST = 923, 10**15
-ROOM_LONG = SEATS * SEAT_LONG
+# The highest sum, in kopecks.
+MOST = 10**15
 OWNER, DIRECT, INDIRECT, PROVIDER = range(4)
 
-# The kind of a step that sets an account; the other steps have the kinds of their messages.
-SET = 4
+# The checks of a pacs.002 that leave the transfer waiting.
+LEAVES_WAITING = ORDERS[PACS_002][: ORDERS[PACS_002].index(36)]
 
-# What the fields of a kind are called here, in document 01's order.
+# What the fields of a kind are called here, in the documents' order.
 FIELDS = {
     "pacs.008": """id created instructing instructed reference uetr amount previous debtor_system debtor debtor_iban creditor_system
                    creditor creditor_iban""".split(),
     "camt.050": "id created uetr amount debtor creditor".split(),
     "pacs.028": "id created instructing original original_name original_created uetr reference".split(),
+    "pacs.002": "id created original group_status client_status".split(),
 }
 
 Record = namedtuple("Record", "code instant kind named")
@@ -75,59 +77,29 @@ def remainder(iban):
     return int("".join(str(int(c, 36)) for c in iban[4:] + iban[:4])) % 97
 
 
-class Step:
-    """What a journal keeps of a call; what the kind lacks stays empty."""
-
-    def __init__(self, kind, status=0, check=0, sender=0, message=None, moved=(0, 0, 0), account=0, old=(0, 0, 0, 0), given=(0, 0, 0, 0)):
-        self.kind, self.status, self.check, self.sender = kind, status, check, sender
-        self.id, self.uetr = getattr(message, "id", ""), getattr(message, "uetr", "")
-        self.created, self.reference = getattr(message, "created", ""), getattr(message, "reference", "")
-        self.moved, self.account, self.old, self.given = moved, account, old, given
-
-    def numbers(self):
-        digits = self.uetr.replace("-", "") or "0" * 32
-        return [self.kind, self.status, self.check, self.sender, *[int(part, 16) for part in stored_as(self.id).split()],
-                int(digits[:16], 16), int(digits[16:], 16), time_in(self.created) or 0,
-                *[int(part, 16) for part in stored_as(self.reference).split()], *self.moved, self.account, *self.old, *self.given]
-
-
-class Seat:
-    def __init__(self):
-        self.opening = 0
-        self.clear()
-
-    def clear(self):
-        """An account is opening sum, balance, turnover, blocks outgoing and incoming, LTK, LPO. `before` has the accounts as they were
-        before each step."""
-        self.is_open, self.accounts, self.steps, self.before = 0, [[0] * 7 for _ in range(32)], [], []
-
-    def record(self, step):
-        self.before.append(copy.deepcopy(self.accounts))
-        self.steps.append(step)
-        debit, credit, amount = step.moved
-        self.accounts[debit][1] -= amount
-        self.accounts[debit][2] += amount
-        self.accounts[credit][1] += amount
-        if step.kind == SET:
-            self.accounts[step.account][3:] = step.given
-
-    def numbers(self):
-        rows = [number for account in self.accounts for number in account] + [n for step in self.steps for n in step.numbers()]
-        return [self.opening, self.is_open, len(self.steps), *rows, *[0] * (SEAT_LONG - 3 - len(rows))]
-
-
 class Question:
     """A message held against a directory and a journal: what the rows of the check table speak of."""
 
     def __init__(self, directory, seat, sender, date, message):
-        self.directory, self.accounts, self.steps, self.m = directory, seat.accounts, seat.steps, message
+        self.directory, self.seat, self.accounts, self.steps, self.m = directory, seat, seat.accounts, seat.steps, message
         self.sender, self.by, self.date = sender, self.listed(sender), day_of(date)
-        self.amount = kopecks_in(getattr(message, "amount", ""))
-        self.debit, self.credit = {
-            PACS_008: lambda m: (self.account_two(m.instructing), self.account_two(m.instructed)),
-            CAMT_050: lambda m: (self.named_account(m.debtor), self.named_account(m.creditor)),
-            PACS_028: lambda m: (None, None),
+        self.answered = self.waiting_here() if message.kind == PACS_002 else None
+        self.debit, self.credit, self.amount = {
+            PACS_008: lambda m: (self.account_two(m.instructing), self.account_two(m.instructed), kopecks_in(m.amount)),
+            CAMT_050: lambda m: (self.named_account(m.debtor), self.named_account(m.creditor), kopecks_in(m.amount)),
+            PACS_028: lambda m: (None, None, 0),
+            PACS_002: lambda m: self.settled(),
         }[message.kind](message)
+
+    def waiting_here(self):
+        """The number of the first transfer that waits for this sender under the identifier that a pacs.002 names, or None."""
+        return next((k for k in self.seat.payments(self.m.original)
+                     if self.seat.waits(k) and self.seat.step(k).receiver == self.sender), None)
+
+    def settled(self):
+        """What the transfer that a pacs.002 agrees to is to move, by the places that it keeps; no accounts where there is none."""
+        agrees = self.m.group_status == "ACCP" and self.answered is not None
+        return self.seat.step(self.answered).movement if agrees else (None, None, 0)
 
     def listed(self, code):
         return next((record for record in self.directory if record.code == int(code)), NOBODY)
@@ -155,9 +127,11 @@ class Question:
         return [f"{day:%Y-%m-%d}" for day in (self.date, self.date - datetime.timedelta(days=1))]
 
     def asked_about(self):
-        return next((step for step in self.steps if step.kind == PACS_008 and step.id == self.m.original), None)
+        """The numbers of the pacs.008 steps that a pacs.028 may mean."""
+        return self.seat.payments(self.m.original)
 
-    def agrees(self, step):
+    def agrees(self, number):
+        step = self.seat.step(number)
         return (step.created, step.uetr, step.reference) == (self.m.original_created, self.m.uetr, self.m.reference)
 
     def comes_from(self, agent, bank):
@@ -188,8 +162,8 @@ FAILS = {
     7: lambda q: q.m.created[:10] not in q.days(),
     8: lambda q: int(q.m.instructing) != q.sender,
     9: lambda q: good_code(q.m.original) != q.sender,
-    10: lambda q: q.asked_about() is None,
-    11: lambda q: q.asked_about() is not None and not q.agrees(q.asked_about()),
+    10: lambda q: not q.asked_about() or any(q.seat.waits(number) for number in q.asked_about()),
+    11: lambda q: q.asked_about() != [] and not q.agrees(q.asked_about()[0]),
     12: lambda q: int(q.m.creditor[1:7]) != q.sender,
     13: lambda q: int(q.m.debtor[1:7]) != q.sender,
     14: lambda q: q.m.creditor[7:] != q.m.debtor[7:],
@@ -213,6 +187,9 @@ FAILS = {
     32: lambda q: q.m.previous != "" and q.kind(q.m.debtor) == PROVIDER and not q.serves(q.m.previous, q.m.debtor),
     33: lambda q: q.m.previous == "" and q.kind(q.m.debtor) == PROVIDER and not q.serves(q.m.instructing, q.m.debtor),
     34: lambda q: remainder(q.m.creditor_iban) != 1,
+    35: lambda q: q.answered is None,
+    36: lambda q: q.m.group_status == "RJCT" and q.m.client_status == "",
+    37: lambda q: q.m.group_status == "RJCT" and q.m.client_status != "",
 }
 
 
@@ -242,9 +219,12 @@ class Centre:
     def poke(self, place, number):
         if place >= ROOM_LONG:
             return
-        seat = self.seats[place // SEAT_LONG]
-        if place % SEAT_LONG == 0 and seat.is_open <= number <= OPENINGS:
+        seat, at = self.seats[place // SEAT_LONG], place % SEAT_LONG
+        step, part = (at - STEPS_FROM) // STEP_LONG, (at - STEPS_FROM) % STEP_LONG - ID_FROM
+        if at == 0 and seat.is_open <= number <= OPENINGS:
             seat.opening = number
+        if 0 <= step < len(seat.steps) and 0 <= part < ID_LONG:
+            seat.steps[step].id = renamed(seat.steps[step].id, part, number)
         self.poked[place] = number
         if number == self.number_at(place):
             del self.poked[place]
@@ -296,7 +276,7 @@ class Centre:
             (6, lambda: ltk > MOST or (lpo or 0) > MOST), self.full(seat))
         if not number:
             account, given = self.account(owner, which), (out, into, ltk, 0 if lpo is None else lpo + 1)
-            self.seats[seat].record(Step(SET, account=account, old=tuple(self.seats[seat].accounts[account][3:]), given=given))
+            self.seats[seat].record(set_step(account, tuple(self.seats[seat].accounts[account][3:]), given))
         return number, 0
 
     def submit(self, seat, opening, sender, date, sheet, slip):
@@ -327,14 +307,16 @@ class Centre:
 
     def judged(self, question, check):
         """The step that a message becomes."""
-        kind, moved = question.m.kind, (0, 0, 0)
-        if kind == PACS_028:
-            about = question.asked_about()
-            status, check = (PDNG, check) if check else (about.status, about.check)
-        else:
-            status = RJCT if check else ACCC
-            moved = moved if check else (question.debit, question.credit, question.amount)
-        return Step(kind, status, check, question.sender, question.m, moved)
+        q, message = question, question.m
+        if message.kind == PACS_028:
+            status, check = (PDNG, check) if check else q.seat.result_now(q.asked_about()[0])
+            return Step(PACS_028, status, check, q.sender, message)
+        movement = NO_MOVEMENT if check else (q.debit, q.credit, q.amount)
+        if message.kind == PACS_008:
+            receiver = 0 if check else int(message.instructed)
+            return Step(PACS_008, RJCT if check else WAITS, check, q.sender, message, movement, receiver=receiver)
+        answers = q.answered if message.kind == PACS_002 and check not in LEAVES_WAITING else 0
+        return Step(message.kind, RJCT if check else ACCC, check, q.sender, message, movement, answers=answers)
 
     def back(self, seat, opening):
         number = refusal(self.room_unfit(), self.no_ticket(seat, opening), (10, lambda: not self.seats[seat].steps))

@@ -1,23 +1,24 @@
 """The scenes of messages that are judged: the cases of document 01, each check as the first that fails, and messages carried out."""
-from centre import ROOM_LONG
-from script import (BAD_IBAN, CASES, SCHOOL, back, call, centre, id_of, listed, note, payment, play, printed, put, request, rows, show,
-                    start, submit, transfer)
-from slips import STEPS, WRITTEN
+from journal import ROOM_LONG, SEAT_LONG
+from script import (BAD_IBAN, CASES, REFUSES, SCHOOL, back, call, centre, id_of, listed, note, payment, play, put, reply, request, settle,
+                    show, slip_is, start, submit, transfer)
+from slips import OPENINGS, SEATS, STEPS, WRITTEN
 
 ONE, TWO, BRANCH = 300001, 300002, 300012
 
 
-def cases():
-    def fresh():
-        call(0, "lay", ROOM_LONG)
-        start(3, 50000, 10000)
+def fresh():
+    """The start of each case."""
+    call(0, "lay", ROOM_LONG)
+    start(3, 50000, 10000)
 
+
+def cases():
     note("The cases of document 01. Case 1, and case 8 in its slip: 500.00 from account 1 to account 2, and 500.01.")
     listed(*CASES)
     fresh()
     submit("ACCC 0", 3, ONE, transfer(ONE, "500.00"))
-    assert printed[-1].endswith("slip 480600020080")
-    show(3, ONE)
+    slip_is("480600020080")
     play("dump 3")
     fresh()
     submit("RJCT 22", 3, ONE, transfer(ONE, "500.01"))
@@ -35,17 +36,24 @@ def cases():
     fresh()
     put(3, ONE, 1, lpo=0)
     submit("RJCT 24", 3, ONE, transfer(ONE, "0.01"))
+
+
+def later_cases():
     note("Case 4: a direct branch and an indirect one send a camt.050. Case 5: created on the leap day before, and a day earlier.")
     fresh()
     submit("RJCT 4", 3, 300012, transfer(300012))
     submit("12 2", 3, 300011, transfer(300011))
     submit("ACCC 0", 3, ONE, transfer(ONE, created="2024-02-29T23:59:59"))
     submit("RJCT 7", 3, ONE, transfer(ONE, created="2024-02-28T23:59:59"))
-    note("Case 6: the creditor's IBAN. Case 7: a pacs.028 about a pacs.008 that was taken back.")
+    note("Case 6: the creditor's IBAN. Case 7: a pacs.028 about a pacs.008 that was taken back, while it waited and once settled.")
     fresh()
     submit("RJCT 34", 3, ONE, payment(ONE, creditor_iban=BAD_IBAN))
-    paid = submit("ACCC 0", 3, ONE, payment(ONE))
+    paid = submit("WAITS 0", 3, ONE, payment(ONE))
     back(3)
+    submit("PDNG 10", 3, ONE, request(ONE, paid))
+    settle("ACCC 0", 3, ONE, paid)
+    submit("ACCC 0", 3, ONE, request(ONE, paid))
+    back(3, 3)
     submit("PDNG 10", 3, ONE, request(ONE, paid))
     note("Case 9: three sheets that are refused. Case 10: the ticket of the first opening at the second one. Case 11 comes below.")
     for sheet, place in [("<A></A>", 4), ("<A>x</B>", 6), ("", 0)]:
@@ -88,6 +96,9 @@ def transfers():
     submit("RJCT 17", 1, ONE, transfer(ONE, uetr=done["uetr"], currency="USD", **dollars))
     submit("RJCT 18", 1, ONE, transfer(ONE, "9000.00", "USD", **dollars))
     full_journal()
+
+
+def transfers_of_money():
     note("20 to 24, each with all later ones failing too as far as they can; 22 also where LPO is 0.")
     start(1, 50000, 10000)
     put(1, ONE, 1, out=1, lpo=0)
@@ -103,7 +114,6 @@ def transfers():
     note("A block incoming of the debtor account and one outgoing of the creditor account stop nothing here; the other way they do.")
     submit("ACCC 0", 1, ONE, transfer(ONE, "400.00"))
     submit("RJCT 20", 1, ONE, transfer(ONE, way="21"))
-    show(1, ONE)
     play("dump 1")
 
 
@@ -131,7 +141,7 @@ def payments_refused():
     submit("12 1", 2, 300009, payment(300009))
     submit("12 2", 2, 300014, payment(300014))
     submit("RJCT 3", 2, 300003, payment(300003, id="X"))
-    done = submit("ACCC 0", 2, ONE, payment(ONE))
+    done = settle("ACCC 0", 2, ONE, payment(ONE))
     submit("RJCT 5", 2, ONE, payment(ONE, id="X", created="2024-01-01T00:00:00"))
     submit("RJCT 6", 2, ONE, payment(ONE, id=done["id"], created="2024-01-01T00:00:00"))
     submit("RJCT 7", 2, ONE, payment(ONE, created="2024-02-28T00:00:00", instructing=TWO))
@@ -151,6 +161,9 @@ def payments_refused():
     submit("RJCT 29", 2, ONE, payment(ONE, creditor_system="ASP", creditor=300023, debtor=TWO))
     submit("RJCT 29", 2, ONE, payment(ONE, creditor_system="ASP", creditor=300021))
     submit("RJCT 29", 2, ONE, payment(ONE, BRANCH, creditor_system="ASP", creditor=300022))
+
+
+def agents_refused():
     note("30: another bank, an own direct branch, the head of a direct branch. 31: another bank, a direct branch, the head of one.")
     start(2, 50000, 10000, 70000, 20000)
     submit("RJCT 30", 2, ONE, payment(ONE, debtor=TWO, creditor=BRANCH))
@@ -164,54 +177,58 @@ def payments_refused():
     submit("RJCT 32", 2, ONE, payment(ONE, previous=TWO, **provider))
     submit("RJCT 33", 2, TWO, payment(TWO, ONE, **provider))
     submit("RJCT 33", 2, BRANCH, payment(BRANCH, ONE, debtor_system="ASP", debtor=300022))
-    note("34, then 20 to 24 on accounts 2, with later ones failing too as far as they can. The payer's account 1 means nothing.")
-    put(2, ONE, 1, 1, 1, 10**15, 0)
+    note("34 is the last. With the payer's account blocked, limited and too poor and the payee's blocked, a pacs.008 waits.")
     put(2, ONE, 2, out=1, lpo=0)
     put(2, TWO, 2, into=1)
     submit("RJCT 34", 2, ONE, payment(ONE, creditor_iban=BAD_IBAN, amount="500.00"))
-    submit("RJCT 20", 2, ONE, payment(ONE, amount="500.00"))
-    put(2, ONE, 2, lpo=0)
-    submit("RJCT 21", 2, ONE, payment(ONE, BRANCH, amount="500.00"))
-    put(2, TWO, 2, out=1)
-    submit("RJCT 22", 2, ONE, payment(ONE, amount="100.01"))
-    submit("RJCT 24", 2, ONE, payment(ONE, amount="100.00"))
-    submit("RJCT 20", 2, BRANCH, payment(BRANCH, ONE))
-    put(2, ONE, 2, lpo=5000)
-    submit("RJCT 22", 2, ONE, payment(ONE, amount="100.01"))
-    submit("RJCT 23", 2, ONE, payment(ONE, amount="50.01"))
-    submit("ACCC 0", 2, ONE, payment(ONE, amount="50.00"))
+    submit("WAITS 0", 2, ONE, payment(ONE, amount="500.00"))
+    submit("WAITS 0", 2, BRANCH, payment(BRANCH, BRANCH, amount="99999999999.99"))
     play("dump 2")
 
 
 def payments_done():
-    note("pacs.008 carried out: to a bank, from a direct branch (its head pays), to a direct branch (its head is paid).")
-    start(4, 50000, 10000, 70000, 20000)
-    submit("ACCC 0", 4, ONE, payment(ONE, amount="30.00"))
-    submit("ACCC 0", 4, BRANCH, payment(BRANCH, ONE, amount="220.00"))
-    submit("ACCC 0", 4, ONE, payment(ONE, BRANCH, amount="5.55"), long=8)
+    note("pacs.008 settled, in the last seat at its last opening: to a bank, from a direct branch (its head pays), to one (paid).")
+    last = SEATS - 1
+    play(f"poke {last * SEAT_LONG} {OPENINGS - 1}")
+    start(last, 50000, 10000, 70000, 20000)
+    settle("ACCC 0", last, ONE, payment(ONE, amount="30.00", previous=300009))
+    settle("ACCC 0", last, BRANCH, payment(BRANCH, ONE, amount="220.00"))
+    settle("ACCC 0", last, ONE, payment(ONE, BRANCH, amount="5.55"), long=8)
     note("To itself, from a bank to its direct branch and back, from the branch to itself: balances stay, turnover grows.")
-    submit("ACCC 0", 4, ONE, payment(ONE, ONE, amount="7.00"))
-    submit("ACCC 0", 4, TWO, payment(TWO, BRANCH, amount="0.05"))
-    submit("ACCC 0", 4, BRANCH, payment(BRANCH, TWO, amount="0.50"))
-    submit("RJCT 22", 4, BRANCH, payment(BRANCH, BRANCH, amount="100.00"))
-    submit("ACCC 0", 4, BRANCH, payment(BRANCH, BRANCH, amount="5.00"))
-    show(4, ONE, TWO)
-    back(4)
-    show(4, TWO)
-    note("Indirect branches; providers, without PrvsInstgAgt1, with it, with it by another bank; last, it means nothing for a bank.")
-    submit("ACCC 0", 4, TWO, payment(TWO, ONE, debtor=300015, creditor=300011))
-    submit("ACCC 0", 4, ONE, payment(ONE, debtor_system="ASP", debtor=300021))
-    submit("ACCC 0", 4, ONE, payment(ONE, debtor_system="ASP", debtor=300021, previous=ONE))
-    submit("ACCC 0", 4, ONE, payment(ONE, debtor_system="ASP", debtor=300023, previous=TWO))
-    submit("ACCC 0", 4, ONE, payment(ONE, creditor_system="ASP", creditor=300022))
-    submit("ACCC 0", 4, ONE, payment(ONE, previous=300009))
-    play("dump 4")
+    settle("ACCC 0", last, ONE, payment(ONE, ONE, amount="7.00"))
+    settle("ACCC 0", last, TWO, payment(TWO, BRANCH, amount="0.05"))
+    settle("ACCC 0", last, BRANCH, payment(BRANCH, TWO, amount="0.50"))
+    settle("ACCC 0", last, BRANCH, payment(BRANCH, BRANCH, amount="5.00"))
+    show(last, TWO)
+    back(last)
+    show(last, TWO)
+    full_of_pairs(last)
+
+
+def full_of_pairs(seat):
+    """Twelve transfers and their answers; the seventh, whose answer was just taken back, is answered last."""
+    waiting = centre.seats[seat].steps[-1].id
+    note("Indirect branches; providers, without PrvsInstgAgt1, with it, with it by another bank; too much for the branch's head.")
+    settle("ACCC 0", seat, TWO, payment(TWO, ONE, debtor=300015, creditor=300011))
+    settle("ACCC 0", seat, ONE, payment(ONE, debtor_system="ASP", debtor=300021))
+    settle("ACCC 0", seat, ONE, payment(ONE, debtor_system="ASP", debtor=300021, previous=ONE))
+    settle("ACCC 0", seat, ONE, payment(ONE, debtor_system="ASP", debtor=300023, previous=TWO, creditor_system="ASP", creditor=300022))
+    settle("RJCT 22", seat, BRANCH, payment(BRANCH, BRANCH, amount="100.00"))
+    note("Pairs of a transfer and its answer fill the journal. One too many: 9, also for a bad sheet; with a short buffer 11.")
+    refusing = submit("RJCT 37", seat, BRANCH, reply(BRANCH, {"id": waiting}, REFUSES))
+    slip_is("94b7fffe0c00")
+    submit("9 0", seat, BRANCH, reply(BRANCH, {"id": waiting}))
+    submit("9 0", seat, 300009, str(refusing)[:-1])
+    submit("11 0", seat, BRANCH, refusing, long=WRITTEN.long - 1)
+    back(seat)
+    submit("ACCC 0", seat, BRANCH, reply(BRANCH, {"id": waiting}))
+    play(f"dump {seat}")
 
 
 def requests():
-    note("pacs.028: each check as the first that fails, about a pacs.008 that was carried out.")
+    note("pacs.028: each check as the first that fails, about a pacs.008 that was settled.")
     start(5, 50000, 10000, 70000, 20000, 3000, 3000)
-    paid = submit("ACCC 0", 5, ONE, payment(ONE, reference="R" * 34 + "1"))
+    paid = settle("ACCC 0", 5, ONE, payment(ONE, reference="R" * 34 + "1"))
     submit("12 1", 5, 300021, request(300021, paid))
     submit("12 2", 5, 300011, request(300011, paid))
     submit("PDNG 3", 5, 300003, request(300003, paid, id="X"))
@@ -226,16 +243,20 @@ def requests():
     submit("PDNG 11", 5, ONE, request(ONE, paid, original_created="2024-03-01T12:34:57"))
     submit("PDNG 11", 5, ONE, request(ONE, paid, uetr=paid["uetr"][:-1] + ("1" if paid["uetr"].endswith("0") else "0")))
     submit("PDNG 11", 5, ONE, request(ONE, paid, reference="R" * 34 + "2"))
-    note("Told: carried out; then rejected, with the pacs.008's own check. A camt.050 is not found.")
+    note("Told: settled; then rejected, with the check of its answer. A camt.050 and a pacs.002 are not found.")
     asked = submit("ACCC 0", 5, ONE, request(ONE, paid, original_name="pacs.008"), long=7)
     submit("PDNG 6", 5, ONE, asked)
-    failed = submit("RJCT 22", 5, ONE, payment(ONE, amount="900.00", reference="A"))
+    failed = settle("RJCT 22", 5, ONE, payment(ONE, amount="900.00", reference="A"))
     submit("RJCT 22", 5, ONE, request(ONE, failed))
     submit("PDNG 11", 5, ONE, request(ONE, failed, reference="A "))
     moved = submit("ACCC 0", 5, ONE, transfer(ONE))
     submit("PDNG 10", 5, ONE, request(ONE, moved))
-    show(5, ONE)
+    stray = submit("RJCT 35", 5, ONE, reply(ONE, paid))
+    submit("PDNG 10", 5, ONE, request(ONE, paid, original=stray["id"]))
     play("dump 5")
+
+
+def requests_again():
     note("Two pacs.008 with one MsgId: the first is told of. One that another bank sent under this one's code is found.")
     start(5, 50000, 10000, 70000, 20000)
     first = submit("RJCT 34", 5, ONE, payment(ONE, creditor_iban=BAD_IBAN))
@@ -246,16 +267,16 @@ def requests():
     submit("RJCT 5", 5, ONE, request(ONE, strange))
     submit("RJCT 6", 5, ONE, payment(ONE, id=strange["id"]))
     note("A direct branch asks about its own. Taken back, the pacs.008 is gone; sent again, it is found.")
-    paid = submit("ACCC 0", 5, BRANCH, payment(BRANCH, ONE))
+    paid = settle("ACCC 0", 5, BRANCH, payment(BRANCH, ONE))
     submit("ACCC 0", 5, BRANCH, request(BRANCH, paid))
-    back(5, 2)
+    back(5, 3)
     submit("PDNG 10", 5, BRANCH, request(BRANCH, paid))
-    submit("ACCC 0", 5, BRANCH, paid)
+    settle("ACCC 0", 5, BRANCH, paid)
     submit("ACCC 0", 5, BRANCH, request(BRANCH, paid))
     note("The UETR that a pacs.028 asks about does not count for 17; that of a pacs.008 does, for a camt.050 too.")
     ahead = payment(ONE)
     submit("PDNG 10", 5, ONE, request(ONE, ahead))
-    submit("ACCC 0", 5, ONE, ahead)
+    submit("WAITS 0", 5, ONE, ahead)
     submit("RJCT 17", 5, ONE, transfer(ONE, uetr=ahead["uetr"]))
     play("dump 5")
 
@@ -280,7 +301,6 @@ def easily_wrong():
     submit("RJCT 23", 6, ONE, transfer(ONE, "200.01"))
     submit("RJCT 6", 6, ONE, moved)
     back(6, 3)
-    show(6, ONE)
     submit("ACCC 0", 6, ONE, moved)
     play("dump 6")
     back(6, 2)
@@ -291,11 +311,11 @@ def easily_wrong():
     put(6, ONE, 2)
     submit("ACCC 0", 6, ONE, transfer(ONE, "60.00", way="21"))
     put(6, ONE, 2, lpo=5000)
-    submit("RJCT 23", 6, ONE, payment(ONE, amount="0.01"))
+    settle("RJCT 23", 6, ONE, payment(ONE, amount="0.01"))
     put(6, ONE, 2, ltk=10**15, lpo=10**15)
-    submit("RJCT 22", 6, ONE, payment(ONE, amount="0.01"))
+    settle("RJCT 22", 6, ONE, payment(ONE, amount="0.01"))
     put(6, ONE, 2, ltk=3999, lpo=6001)
-    submit("ACCC 0", 6, ONE, payment(ONE, amount="0.01"))
+    settle("ACCC 0", 6, ONE, payment(ONE, amount="0.01"))
     put(6, ONE, 2, ltk=3999, lpo=6001)
     play("dump 6")
 
@@ -316,39 +336,5 @@ def dates():
         submit("6 0", 6, ONE, "<A></A>", date=date, long=WRITTEN.long - 1)
 
 
-def rows_alone():
-    note("Every check that fails is listed, each by itself. camt.050, with both accounts of 300001 blocked and limited.")
-    listed(*SCHOOL)
-    start(7, 50000, 10000, 70000, 20000)
-    put(7, ONE, 1, out=1, lpo=0)
-    put(7, ONE, 2, into=1, lpo=1)
-    put(7, TWO, 2, out=1, lpo=0)
-    rows([1], 7, 300099, transfer(300099))
-    rows([2, 3, 4], 7, 300015, transfer(300015))
-    wrong = transfer(ONE, "900.00", "EUR", id="X", created="2024-02-28T00:00:00", debtor="3300002USD", creditor="2300003UAH")
-    rows([5, 7, 12, 13, 14, 15, 16, 19], 7, ONE, wrong)
-    rows([18, 19, 20, 21, 22, 24], 7, ONE, transfer(ONE, "900.00", "USD", debtor="1300001USD", creditor="2300001USD"))
-    rows([23], 7, ONE, transfer(ONE, way="21"))
-    rows([6, 17, 20, 21, 24], 7, ONE, submit("RJCT 20", 7, ONE, transfer(ONE)))
-    note("pacs.008.")
-    rows([1, 25, 33], 7, 300021, payment(300021))
-    rows([2, 3], 7, 300015, payment(300015))
-    rows([5, 7, 8, 25, 27, 26, 30, 33, 34, 20, 22, 24], 7, ONE, payment(
-        ONE, id="X", created="2024-02-28T00:00:00", instructing="300002", instructed="300015", amount="900.00", debtor="300021",
-        creditor_system="ASP", creditor="300003", creditor_iban=BAD_IBAN))
-    rows([27, 28, 29, 31, 32, 23], 7, ONE, payment(
-        ONE, instructed="300003", previous="300002", debtor_system="ASP", debtor="300021", creditor="300023"))
-    paid = submit("RJCT 20", 7, TWO, payment(TWO, ONE))
-    rows([6, 17, 20, 21, 24], 7, TWO, paid)
-    note("pacs.028, and messages that fail nothing.")
-    rows([1, 9], 7, 300021, request(300021, paid))
-    rows([2, 3, 9], 7, 300015, request(300015, paid))
-    rows([5, 7, 8, 9, 10], 7, ONE, request(ONE, paid, id="X", created="2024-02-28T00:00:00", instructing="300002", original="X"))
-    rows([11], 7, TWO, request(TWO, paid, reference="another"))
-    rows([6], 7, TWO, submit("RJCT 20", 7, TWO, request(TWO, paid)))
-    rows([], 7, TWO, request(TWO, paid))
-    rows([], 7, TWO, transfer(TWO))
-    play("dump 7")
-
-
-SCENES = (cases, transfers, payments_refused, payments_done, requests, easily_wrong, dates, rows_alone)
+SCENES = (cases, later_cases, transfers, transfers_of_money, payments_refused, agents_refused, payments_done, requests, requests_again,
+          easily_wrong, dates)

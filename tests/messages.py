@@ -1,12 +1,13 @@
-"""The vectors of messages: every field of every kind missing, doubled and of each shape, and the rules of document 01's section on fields,
-each with the answer that is worked out here a second time. The assertions say what a vector is there for."""
+"""The vectors of messages: every field of every kind missing, doubled and of each shape, and the rules of document 01's section on fields
+and of request 9 of document 02, each with the answer that is worked out here a second time. The assertions say what a vector is there
+for."""
 import re
 
 from second import account_as, kopecks_in, name_as, number_as, packed, read, stored_as, time_in, UUID4
 
 M, S = "FinInstnId/ClrSysMmbId/MmbId", "FinInstnId/ClrSysMmbId/ClrSysId/Prtry"
 
-# Of each kind its body and its fields in document 01's order: a shape and a path below the body. A `?` marks the optional one.
+# Of each kind its body and its fields in the documents' order: a shape and a path below the body. A `?` marks the optional one.
 KINDS = {
     "pacs.008": ("FIToFICstmrCdtTrf", f"""
         identifier GrpHdr/MsgId|time GrpHdr/CreDtTm|code GrpHdr/InstgAgt/{M}|code GrpHdr/InstdAgt/{M}
@@ -21,11 +22,20 @@ KINDS = {
         identifier GrpHdr/MsgId|time GrpHdr/CreDtTm|code GrpHdr/InstgAgt/{M}|identifier TxInf/OrgnlGrpInf/OrgnlMsgId
         original TxInf/OrgnlGrpInf/OrgnlMsgNmId|time TxInf/OrgnlGrpInf/OrgnlCreDtTm|uetr TxInf/OrgnlUETR
         identifier TxInf/OrgnlEndToEndId"""),
+    "pacs.002": ("FIToFIPmtStsRpt", """
+        identifier GrpHdr/MsgId|time GrpHdr/CreDtTm|identifier OrgnlGrpInfAndSts/OrgnlMsgId|group OrgnlGrpInfAndSts/GrpSts
+        client? TxInfAndSts/TxSts"""),
 }
 KINDS = {
     kind: (body, [tuple(field.split()) for field in fields.strip().replace("\n", "|").split("|")])
     for kind, (body, fields) in KINDS.items()
 }
+
+# The most fields that a kind has.
+FIELDS_MOST = 14
+
+# The places of GrpSts and TxSts among the fields of a pacs.002.
+GROUP_AT, CLIENT_AT = 3, 4
 
 SHAPES = {
     "identifier": lambda s: len(s) <= 35,
@@ -37,6 +47,8 @@ SHAPES = {
     "iban": lambda s: re.fullmatch("UA[0-9]{8}[0-9A-Z]{19}", s),
     "account": lambda s: re.fullmatch("[0-9]{7}[A-Z]{3}", s),
     "original": lambda s: len(s) <= 35 and s.startswith("pacs.008"),
+    "group": lambda s: s in ("ACCP", "RJCT"),
+    "client": lambda s: s == "RJCT",
 }
 
 
@@ -51,6 +63,22 @@ def is_good(shape, rows):
     return bool(row["ccy"]) == (shape == "amount") and bool(SHAPES[shape](row["text"]))
 
 
+def goes_with(kind, at, found):
+    """The rule between two fields: beside GrpSts ACCP no TxSts may stand, whatever its text."""
+    if kind != "pacs.002" or at != CLIENT_AT:
+        return True
+    return not (found[CLIENT_AT] and [row["text"] for row in found[GROUP_AT]] == ["ACCP"])
+
+
+def reply_as(kind, text):
+    """How a pacs.002 answers a transfer."""
+    if kind != "pacs.002":
+        return " none"
+    if text[1 + GROUP_AT] == "ACCP":
+        return " accepts"
+    return " refuses" if text[1 + CLIENT_AT] else " declines"
+
+
 def message_as(kind, rows):
     """What a message holds, in the order in which the program prints it."""
     text = [""] + [row["text"] if row else "" for row in rows]
@@ -59,16 +87,18 @@ def message_as(kind, rows):
         number = numbers[list(KINDS).index(kind)]
         return text[number] if number else ""
 
-    amount = {"pacs.008": 7, "camt.050": 4, "pacs.028": 0}[kind]
-    uetr = of(6, 3, 7).replace("-", "") or "0" * 32
-    creditor = of(14, 0, 0)
-    common = [" " + kind, name_as(of(1, 1, 1)), number_as(time_in(of(2, 2, 2))), number_as(of(3, 0, 3)), name_as(of(0, 0, 4)),
-              number_as(time_in(of(0, 0, 6)))]
-    transfer = [stored_as(of(5, 0, 8)), f" {uetr[:16]} {uetr[16:]}", number_as(kopecks_in(of(7, 4, 0)) or None),
-                number_as(packed(rows[amount - 1]["ccy"][1:4]) if amount else None), account_as(of(0, 5, 0)), account_as(of(0, 6, 0))]
-    parties = [number_as(of(4, 0, 0)), number_as(of(8, 0, 0)), f" {of(9, 0, 0) or 'neither'}", number_as(of(10, 0, 0)),
-               f" {of(12, 0, 0) or 'neither'}", number_as(of(13, 0, 0)),
-               f" {int(''.join(str(int(c, 36)) for c in creditor[4:] + creditor[:4])) % 97}" if creditor else " none"]
+    amount = {"pacs.008": 7, "camt.050": 4}.get(kind, 0)
+    uetr = of(6, 3, 7, 0).replace("-", "") or "0" * 32
+    creditor = of(14, 0, 0, 0)
+    common = [" " + kind, name_as(of(1, 1, 1, 1)), number_as(time_in(of(2, 2, 2, 2))), number_as(of(3, 0, 3, 0)), name_as(of(0, 0, 4, 3)),
+              number_as(time_in(of(0, 0, 6, 0)))]
+    transfer = [stored_as(of(5, 0, 8, 0)), f" {uetr[:16]} {uetr[16:]}", number_as(kopecks_in(of(7, 4, 0, 0)) or None),
+                number_as(packed(rows[amount - 1]["ccy"][1:4]) if amount else None), account_as(of(0, 5, 0, 0)),
+                account_as(of(0, 6, 0, 0))]
+    parties = [number_as(of(4, 0, 0, 0)), number_as(of(8, 0, 0, 0)), f" {of(9, 0, 0, 0) or 'neither'}", number_as(of(10, 0, 0, 0)),
+               f" {of(12, 0, 0, 0) or 'neither'}", number_as(of(13, 0, 0, 0)),
+               f" {int(''.join(str(int(c, 36)) for c in creditor[4:] + creditor[:4])) % 97}" if creditor else " none",
+               reply_as(kind, text)]
     return "".join(common + transfer + parties)
 
 
@@ -84,11 +114,11 @@ def received(s):
     else:
         return " 8 0"
     found = [[row for row in reader.rows if row["path"] == f"/Document/{body}/{path}"] for _, path in fields]
-    bad = [k for k, ((shape, _), rows) in enumerate(zip(fields, found), 1) if not is_good(shape, rows)]
+    bad = [at for at, (shape, _) in enumerate(fields) if not (is_good(shape, found[at]) and goes_with(kind, at, found))]
     if bad:
-        return f" 8 {bad[0]}"
+        return f" 8 {1 + bad[0]}"
     rows = [rows[0] if rows else None for rows in found]
-    shown = "".join(f" {row['start']}[{row['text']}]" if row else " 0[]" for row in rows + [None] * (14 - len(rows)))
+    shown = "".join(f" {row['start']}[{row['text']}]" if row else " 0[]" for row in rows + [None] * (FIELDS_MOST - len(rows)))
     return " 0" + message_as(kind, rows) + shown + "[]"
 
 
@@ -108,9 +138,11 @@ EXAMPLES = {
     "camt.050": ["3000012024030100000002", "2024-02-29T00:00:00", "123e4567-e89b-42d3-a456-426614174000", "0.01", "1300001UAH", "2300001UAH"],
     "pacs.028": ["3000012024030100000003", "2099-12-31T23:59:59", "300001", "3000012024030100000001", "pacs.008.001.08",
                  "2024-03-01T12:34:56", "eb6305c9-1f7f-49de-aed0-16487c27b42d", "E2E-1"],
+    "pacs.002": ["3000022024030100000004", "2024-03-01T12:35:00", "3000012024030100000001", "RJCT", "RJCT"],
 }
 
-# Of each shape texts that have it and texts that have not. An empty text is none: the sheet itself would be refused.
+# Of each shape texts that have it and texts that have not. An empty text is none: the sheet itself would be refused. ACCP fits too, but
+# not beside the TxSts of the example.
 FITS = {
     "identifier": (["x", "i" * 35, "a blank", "~!\"#"], ["i" * 36]),
     "time": (["2000-01-01T00:00:00"], ["2024-02-30T00:00:00", "2024-03-01T00:00:60", "2024-03-01T00:00:00Z", "1999-12-31T00:00:00"]),
@@ -122,6 +154,8 @@ FITS = {
     "iban": (["UA00000000ZZZZZZZZZZZZZZZZZZZ"], ["UA21322313000002600723356600", "UA21322A130000026007233566001", "PL213223130000026007233566001"]),
     "account": (["0000000AAA", "9999999ZZZ"], ["1300001uah", "130001UAH", "13000011UAH"]),
     "original": (["pacs.008", "pacs.008" + "x" * 27], ["pacs.00", "pacs.009.001.08", "Pacs.008", "pacs.008" + "x" * 28]),
+    "group": (["RJCT"], ["ACCC", "accp", "rjct", "ACC", "ACCPT", "RJC", "RJCT ", "ACSC", "PDNG"]),
+    "client": (["RJCT"], ["ACCP", "rjct", "RJC", "RJCT ", " RJCT"]),
 }
 
 
@@ -192,9 +226,52 @@ def fields_of(kind):
             assert changed((path, text, ccy)) == f"8 {k}"
 
 
+def how(s):
+    """Asks after a pacs.002; its refusal, or how it answers."""
+    refusal = receive(s)
+    return refusal if refusal != "0" else next(word for word in asked[-1][1].split() if word in ("accepts", "declines", "refuses"))
+
+
+def statuses(groups, clients):
+    """A pacs.002 with these elements for GrpSts and for TxSts: each a text, or a text and a Ccy."""
+    given = [(path, *(part if isinstance(part, tuple) else (part, "")))
+             for (_, path), parts in zip(KINDS["pacs.002"][1][GROUP_AT:], (groups, clients)) for part in parts]
+    return document("pacs.002", leaves("pacs.002")[:GROUP_AT] + given)
+
+
+def answers():
+    """A pacs.002's GrpSts and TxSts together, and what else may stand in it."""
+    for groups, clients, wants in [
+        (["ACCP"], [], "accepts"), (["RJCT"], [], "declines"), (["RJCT"], ["RJCT"], "refuses"),
+        # beside ACCP no TxSts may stand, of whatever shape
+        (["ACCP"], ["RJCT"], "8 5"), (["ACCP"], ["ACCP"], "8 5"), (["ACCP"], ["x" * 36], "8 5"), (["ACCP"], ["RJCT", "RJCT"], "8 5"),
+        (["ACCP"], [("RJCT", ' Ccy="UAH"')], "8 5"), (["ACCP"], ["<X>RJCT</X>"], "8 5"),
+        # a GrpSts that is bad itself goes before
+        ([], ["RJCT"], "8 4"), (["ACCP", "ACCP"], ["RJCT"], "8 4"), (["ACCP", "RJCT"], ["ACCP"], "8 4"), (["ACCPX"], ["x"], "8 4"),
+        ([("ACCP", ' Ccy="UAH"')], ["RJCT"], "8 4"), (["<X>ACCP</X>"], ["RJCT"], "8 4"), ([], [], "8 4"),
+    ]:
+        assert how(statuses(groups, clients)) == wants
+    good = leaves("pacs.002")
+    accepting = [*good[:GROUP_AT], (good[GROUP_AT][0], "ACCP", "")]
+    # TxSts may stand first, and then breaks the rule as well; a lower field goes before it
+    assert how(document("pacs.002", good[::-1])) == "refuses"
+    assert how(document("pacs.002", [good[CLIENT_AT], *accepting])) == "8 5"
+    assert how(document("pacs.002", [*accepting[:2], *accepting[3:], good[CLIENT_AT]])) == "8 3"
+    # no TxSts are a TxInfAndSts without one, and one that stands elsewhere
+    others = [("TxInfAndSts/StsId", "RJCT", ""), ("TxInfAndSts/X/TxSts", "RJCT", ""), ("OrgnlGrpInfAndSts/TxSts", "RJCT", ""),
+              ("TxSts", "RJCT", ' Ccy="UAH"'), ("TxInfAndSts/GrpSts", "RJCT", ""), ("OrgnlGrpInfAndSts/StsRsnInf/Rsn/Cd", "AC04", "")]
+    assert how(document("pacs.002", [*others, *accepting])) == "accepts"
+    assert how(document("pacs.002", [*good[:CLIENT_AT], *others])) == "declines"
+    assert how(document("pacs.002", [*others, *good, *others])) == "refuses"
+    # under the name of a pacs.028 it lacks InstgAgt; under a name that is almost its own it is unknown
+    for name, wants in [("FIToFIPmtStsReq", "8 3"), ("FIToFIPmtStsRp", "8 0"), ("FIToFIPmtStsRptt", "8 0")]:
+        assert how(document("pacs.002", accepting).replace(KINDS["pacs.002"][0], name)) == wants
+
+
 def messages():
     for kind in KINDS:
         fields_of(kind)
+    answers()
     transfer, liquidity = leaves("pacs.008"), leaves("camt.050")
     # another currency: refused in pacs.008 alone
     assert receive(document("pacs.008", transfer).replace('"UAH"', '"USD"')) == "8 7"

@@ -137,6 +137,18 @@ def transfer(sender, amount="1.00", currency=None, way="12", **changes):
         "debtor": f"{way[0]}{sender:06}UAH", "creditor": f"{way[1]}{sender:06}UAH"}).but(currency, **changes)
 
 
+# How a receiver answers: it accepts, declines for a technical reason, or refuses to credit the client.
+ACCEPTS = {"group_status": "ACCP", "client_status": None}
+DECLINES = {"group_status": "RJCT", "client_status": None}
+REFUSES = {"group_status": "RJCT", "client_status": "RJCT"}
+
+
+def reply(sender, about, how=ACCEPTS, **changes):
+    """A pacs.002 about a message."""
+    fields = {"id": id_of(sender, unused()), "created": "2024-03-01T15:00:00", "original": about["id"]}
+    return Sheet("pacs.002", fields | how).but(**changes)
+
+
 def request(sender, about, **changes):
     """A pacs.028 about a message."""
     return Sheet("pacs.028", {
@@ -152,13 +164,26 @@ def ticket(seat):
 
 
 def submit(wants, seat, sender, sheet, date=20240301, long=WRITTEN.long):
-    """Wants the step's result, such as `ACCC 0` or `RJCT 22`, or a refusal and its detail, such as `12 1`. Gives the sheet back."""
+    """Wants the step's result, such as `WAITS 0` or `RJCT 22`, or a refusal and its detail, such as `12 1`. Gives the sheet back."""
     number, detail = play(" ".join(map(str, ["submit", *ticket(seat), sender, date, long, sheet])))
     got = f"{number} {detail}"
     if number == 0:
         step = centre.seats[seat].steps[-1]
-        got = f"{('PDNG', 'ACCC', 'RJCT')[step.status]} {step.check}"
+        got = f"{('PDNG', 'ACCC', 'RJCT', 'WAITS')[step.status]} {step.check}"
     assert got == wants, (asked[-1][:300], got, wants)
+    return sheet
+
+
+def slip_is(digits):
+    """Of the submit before."""
+    assert printed[-1].endswith(" slip " + digits), printed[-1]
+
+
+def settle(wants, seat, sender, sheet, long=WRITTEN.long):
+    """A pacs.008 that waits, and its receiver's ACCP, of which the result is wanted. Gives the pacs.008 back."""
+    submit("WAITS 0", seat, sender, sheet, long=long)
+    receiver = int(sheet["instructed"])
+    submit(wants, seat, receiver, reply(receiver, sheet), long=long)
     return sheet
 
 

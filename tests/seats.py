@@ -1,25 +1,25 @@
 """The scenes of seats that share a room: all twelve at once, calls above seat 7 and above seat 11, which go on in that room; two seats in
 turn; the last opening number."""
-from centre import ROOM_LONG, SEAT_LONG
-from script import (SCHOOL, back, call, listed, note, payment, play, printed, put, request, rows, show, start, submit, sums, ticket,
-                    transfer)
+from journal import ROOM_LONG, SEAT_LONG
+from script import (CASES, back, call, listed, note, payment, play, put, reply, request, rows, settle, show, slip_is, start, submit, sums,
+                    ticket, transfer)
 from slips import ACCC, CAMT_050, FIVE_BYTES, HIGH_SEATS, OPENINGS, SEATS, WRITTEN, image
 
-ONE = 300001
+ONE, TWO = 300001, 300002
 
 
 def twelve_seats():
     note("Twelve pupils at once, each with sums of their own: one message in every seat, and its slip names the seat.")
-    listed(*SCHOOL)
+    listed(*CASES)
     call(0, "lay", ROOM_LONG)
     for seat in range(SEATS):
         start(seat, 50000 + seat, 10000 + seat)
     moved = transfer(ONE, "1.00")
     for seat in range(SEATS):
         submit("ACCC 0", seat, ONE, moved)
-        assert printed[-1].endswith(" slip " + image(WRITTEN, (CAMT_050, ACCC, 0, seat, 1, 1)).hex())
+        slip_is(image(WRITTEN, (CAMT_050, ACCC, 0, seat, 1, 1)).hex())
     for seat in range(SEATS):
-        show(seat, ONE)
+        call(0, "read", *ticket(seat), ONE, 2)
 
 
 def high_seats():
@@ -29,10 +29,9 @@ def high_seats():
         submit("RJCT 20", seat, ONE, transfer(ONE), long=7)
         back(seat, 2)
         submit("11 0", seat, ONE, transfer(ONE), long=FIVE_BYTES.long)
-        paid = submit("ACCC 0", seat, ONE, payment(ONE, amount=f"{seat}.00"), long=8)
+        paid = settle("ACCC 0", seat, ONE, payment(ONE, amount=f"{seat}.00"), long=8)
         submit("ACCC 0", seat, ONE, request(ONE, paid))
         rows([6], seat, ONE, request(ONE, paid, id=paid["id"]))
-        show(seat, ONE)
     note("One of them is closed and opened again. Seats 0 to 3, whose numbers end in the same three bits, are as they were.")
     call(0, "close", *ticket(11))
     call(3, "read", 11, 1, ONE, 1)
@@ -45,7 +44,7 @@ def high_seats():
 def no_seats():
     note("Seats from 12 on are refused by 3, for opening too, also with other bad numbers beside them.")
     sheet = transfer(ONE)
-    for seat in (SEATS, SEATS + 3, SEATS + 4, 2**64 - 1):
+    for seat in (SEATS, SEATS + 4, 2**64 - 1):
         call(3, "open", seat, *sums(50000, 10000))
         call(3, "close", seat, 1)
     for opening in (0, 1):
@@ -65,19 +64,20 @@ def in_turn(first, second):
     start(first, 50000, 10000)
     start(second, 100, 200, 300, 400)
     paid, moved = payment(ONE), transfer(ONE)
-    submit("ACCC 0", first, ONE, paid)
+    submit("WAITS 0", first, ONE, paid)
     submit("PDNG 10", second, ONE, request(ONE, paid))
+    submit("RJCT 35", second, TWO, reply(TWO, paid))
     submit("ACCC 0", second, ONE, moved)
     submit("ACCC 0", first, ONE, moved)
-    submit("ACCC 0", second, ONE, paid)
+    submit("WAITS 0", second, ONE, paid)
+    submit("ACCC 0", first, TWO, reply(TWO, paid))
     put(second, ONE, 1, 1, 1, 5, 0)
     submit("ACCC 0", first, ONE, transfer(ONE))
     submit("RJCT 20", second, ONE, transfer(ONE))
-    back(first, 3)
+    back(first, 4)
     submit("RJCT 6", second, ONE, paid)
     call(10, "back", *ticket(first))
     show(first, ONE)
-    show(second, ONE)
     note("One is closed and opened again: its opening number grows, its journal is empty, its old ticket is 3. The other goes on.")
     call(0, "close", *ticket(first))
     play(f"dump {first}")
@@ -85,7 +85,7 @@ def in_turn(first, second):
     submit("RJCT 17", second, ONE, transfer(ONE, uetr=moved["uetr"]))
     assert call(0, "open", first, *sums(7, 8))[2] == 2
     call(3, "back", first, 1)
-    submit("RJCT 22", first, ONE, paid)
+    settle("RJCT 22", first, ONE, paid)
     play(f"dump {first}")
     play(f"dump {second}")
 

@@ -7,13 +7,12 @@ The IBANs are the example numbers that countries publish for ISO 13616.
 Run it from the project's root after a change to the vectors; `git diff` then shows what moved.
 """
 import datetime
-import itertools
 import re
 
 from messages import messages
 from second import UUID4, kopecks_in, number_as, packed, read, real_date, time_in
-from slips import (FIVE_BYTES, HIGH_SEATS, KIND_NUMBERS, NO_SEATS, ORDERS, SEATS, SIX_BYTES, STEPS, WRITTEN, image, meaning, says,
-                   write_slip)
+from slips import (ANSWER_SAYINGS, FIRST_SAYINGS, FIVE_BYTES, HIGH_SEATS, KIND_NUMBERS, NO_SEATS, ORDERS, SEATS, SIX_BYTES, STEPS, WRITTEN,
+                   image, meaning, write_slip)
 
 IBANS = """
 GB82WEST12345698765432 DE89370400440532013000 FR1420041010050500013M02606 ES9121000418450200051332
@@ -29,7 +28,7 @@ CHECKS = """
 1 TE03 AGNT|2 TE04 AGNT|3 TE07 AGNT|4 TE08|5 H026 RR04|6 DU01 DU01|7 H037 RR04|8 H005 AGNT|9 N002 RR04|10 KV03 RR04
 11 KV02 RR04|12 N029|13 N028|14 N027|15 N015|16 N026|17 DU03 DU03|18 N031|19 N030|20 A001 RR04|21 A002 RR04|22 M001 AM04
 23 M003 RR04|24 A018 RR04|25 X002 AGNT|26 H018 RC10|27 X001 AGNT|28 H065 CNOR|29 H066 CNOR|30 H008 AGNT|31 H019 AGNT
-32 H012 RC09|33 H013 RC09|34 T003 AC03
+32 H012 RC09|33 H013 RC09|34 T003 AC03|35 X003 NARR|36 TE10 FF10|37 X004 NARR
 """.strip().replace("\n", "|").split("|")
 
 asked, answered = [], []
@@ -123,7 +122,7 @@ def table():
     for row in CHECKS:
         number, sep, iso = (row.split() + [""])[:3]
         vector("check " + number, f" {sep:4} {iso:4}")
-    for number in ["0", "35"]:
+    for number in ["0", str(1 + len(CHECKS))]:
         vector("check " + number, " " * 10)
     for name, kind in KIND_NUMBERS.items():
         vector("order " + name, "".join(f" {n}" for n in ORDERS[kind]))
@@ -137,9 +136,21 @@ MARK_BOOKS = """
 322000080e 280000080f 2800000810 6800000810 7440000811 6120000812 6140000813 6160000814
 """.split()
 
-# What a slip can say by its kind, status and check.
-SAYINGS = [saying for saying in itertools.product(*(range(2**width) for width in FIVE_BYTES.widths[:3])) if says(*saying)]
-assert len(SAYINGS) == 71
+# Six-byte slips of the two stages of a transfer: a pacs.008 that waits; a pacs.002 that settled it, with 36, with 35, with 37 in the last
+# step of the last seat; a pacs.028 about one that waits and about one whose client was refused.
+STAGES = {
+    "380000020080": (1, 3, 0, 0, 1, 1), "880000020100": (4, 1, 0, 0, 1, 2), "948000020100": (4, 2, 36, 0, 1, 2),
+    "946000020100": (4, 2, 35, 0, 1, 2), "94b7fffe0c00": (4, 2, 37, 11, 65535, 24), "614000020100": (3, 0, 10, 0, 1, 2),
+    "74a000020180": (3, 2, 37, 0, 1, 3),
+}
+
+# Close to them and no slips, by kind, status and check: kinds that are none; status 3 of another kind or with a check; a pacs.002 that is
+# pending, or has a check that is not its own; a pacs.008 with an answer's checks; a pacs.028 with 35.
+NO_SAYINGS = [
+    (0, 1, 0), (5, 1, 0), (6, 1, 0), (7, 1, 0), (2, 3, 0), (3, 3, 0), (4, 3, 0), (1, 3, 3), (1, 3, 36), (4, 0, 0), (4, 0, 3), (4, 0, 35),
+    (4, 1, 36), (4, 2, 0), (4, 2, 1), (4, 2, 2), (4, 2, 4), (4, 2, 8), (4, 2, 17), (4, 2, 25), (4, 2, 34), (4, 2, 38), (1, 2, 35),
+    (1, 2, 36), (1, 2, 37), (2, 2, 35), (2, 2, 36), (3, 2, 35), (3, 0, 35), (3, 0, 36), (3, 2, 38),
+]
 
 
 def write(values):
@@ -165,7 +176,7 @@ def slips_written():
         assert write(values)
     for values in [
         (2, 2, 25, 0, 1, 1), (1, 2, 4, 0, 1, 1), (1, 2, 1, 0, 1, 1), (1, 2, 2, 0, 1, 1), (3, 0, 22, 0, 1, 1), (3, 0, 0, 0, 1, 1),
-        (1, 0, 3, 0, 1, 1), (1, 1, 3, 0, 1, 1), (1, 2, 0, 0, 1, 1), (1, 3, 0, 0, 1, 1), (0, 1, 0, 0, 1, 1), (4, 1, 0, 0, 1, 1),
+        (1, 0, 3, 0, 1, 1), (1, 1, 3, 0, 1, 1), (1, 2, 0, 0, 1, 1),
         (2, 1, 0, 0, 0, 1), (2, 1, 0, 0, 65536, 1), (2, 1, 0, 0, 1, 0), (2, 1, 0, 0, 1, 25), (2, 1, 0, 16, 1, 1),
     ]:
         assert not write(values)
@@ -200,10 +211,10 @@ def slips_of_six_bytes():
         assert slip(image(SIX_BYTES, (2, 1, 0, seat, 1, 1)).hex()) == (2, 1, 0, seat, 1, 1)
     for seat in NO_SEATS:
         assert not slip(image(SIX_BYTES, (2, 1, 0, seat, 1, 1)).hex())
-    # kinds 0, 4 and 7; a camt.050 with PDNG and with status 3; checks 1 and 40; opening 0; steps 0, 25 and 1023
+    # a camt.050 with PDNG; checks 1 and 40; opening 0; steps 0, 25 and 1023
     for digits in [
-        "080600020080", "880600020080", "e80600020080", "400600020080", "580600020080", "502600020080", "350600020080", "480600000080",
-        "480600020000", "480600020c80", "48060003ff80", "000000000000", "ffffffffffff", "480c000401ee", "480c000401ff",
+        "400600020080", "502600020080", "350600020080", "480600000080", "480600020000", "480600020c80", "48060003ff80", "000000000000",
+        "ffffffffffff", "480c000401ee", "480c000401ff",
     ]:
         assert not slip(digits)
 
@@ -215,15 +226,32 @@ def slips_of_other_lengths():
     assert not slip("4806000200")
 
 
+def slips_of_stages():
+    for digits, values in STAGES.items():
+        assert write(values) and answered[-1].endswith(f" 0 {digits}eeee")
+        assert slip(digits) == values
+    for saying in NO_SAYINGS:
+        assert not write((*saying, 0, 1, 1))
+        assert not slip(image(SIX_BYTES, (*saying, 0, 1, 1)).hex())
+
+
+def all_sayings():
+    """All that can be said, written and read in six bytes. In five bytes an answer's sayings are no slip."""
+    for k, saying in enumerate([*sorted(FIRST_SAYINGS), *sorted(ANSWER_SAYINGS)]):
+        opening, step = 1 + k, 1 + k % STEPS
+        five = slip(image(FIVE_BYTES, (*saying, k % FIVE_BYTES.seats, opening, step)).hex())
+        assert (five is None) == (saying in ANSWER_SAYINGS)
+        assert write((*saying, k % SEATS, opening, step))
+        assert slip(image(SIX_BYTES, (*saying, k % SEATS, opening, step)).hex())
+
+
 def slips():
     slips_written()
     slips_of_five_bytes()
     slips_of_six_bytes()
     slips_of_other_lengths()
-    # all that can be said, read in five bytes and written in six
-    for k, saying in enumerate(SAYINGS):
-        assert slip(image(FIVE_BYTES, (*saying, k % FIVE_BYTES.seats, 1 + k, 1 + k % STEPS)).hex())
-        assert write((*saying, k % SEATS, 1 + k, 1 + k % STEPS))
+    slips_of_stages()
+    all_sayings()
 
 
 def sheet(s):

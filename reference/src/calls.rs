@@ -1,9 +1,9 @@
-//! The nine calls and their refusals (document 01, "Calls and refusals", with request 8 of document 02). A refused call
-//! changes nothing that was lent.
+//! The nine calls and their refusals (document 01, "Calls and refusals", with requests 8 and 9 of document 02). A refused
+//! call changes nothing that was lent.
 
 use crate::checks::{self, Accounts, Case, CHECK_REFUSED_MOST};
 use crate::directory::{self, Record};
-use crate::message::{self, Body, Message};
+use crate::message::{self, Answer, Body, Message};
 use crate::room::{self, Step};
 use crate::shapes::{self, CODE_MOST};
 use crate::sheet::Sheet;
@@ -255,24 +255,39 @@ pub fn submit(
 fn judged_step(case: &Case, failing: Option<u64>) -> Step {
     let mut step = message_step(case.message, case.sender);
     let (status, check) = match (&case.message.body, failing) {
+        (Body::Answer(answer), failing) => put_answer(&mut step, case, answer, failing),
         (Body::Payment(_), Some(check)) | (Body::Liquidity(_), Some(check)) => (slip::RJCT, check),
         (Body::Request(_), Some(check)) => (slip::PDNG, check),
         (Body::Payment(payment), None) => {
             put_movement(&mut step, checks::payment_accounts(case.directory, payment), payment.amount);
-            (slip::ACCC, 0)
+            step[room::STEP_RECEIVER] = payment.instructed;
+            (slip::WAITS, 0)
         }
         (Body::Liquidity(liquidity), None) => {
             put_movement(&mut step, checks::liquidity_accounts(case.directory, liquidity), liquidity.amount);
             (slip::ACCC, 0)
         }
         (Body::Request(request), None) => {
-            let first = checks::original_step(case.seat, request).expect("check 10 has passed");
-            (first[room::STEP_STATUS], first[room::STEP_CHECK])
+            let (number, _) = checks::original_step(case.seat, request).expect("check 10 has passed");
+            room::result_now(case.seat, number)
         }
     };
     step[room::STEP_STATUS] = status;
     step[room::STEP_CHECK] = check;
     step
+}
+
+/// The result of a pacs.002, and in its step the transfer that it settles or rejects. One that fails a check before 36
+/// touches no transfer.
+fn put_answer(step: &mut Step, case: &Case, answer: &Answer, failing: Option<u64>) -> (u64, u64) {
+    if failing.map_or(true, checks::rejects_transfer) {
+        let (number, transfer) = case.answered_step(answer).expect("check 35 has passed");
+        step[room::STEP_ANSWERS] = number;
+        if failing.is_none() {
+            step[room::STEP_MOVEMENT].copy_from_slice(&transfer[room::STEP_MOVEMENT]);
+        }
+    }
+    failing.map_or((slip::ACCC, 0), |check| (slip::RJCT, check))
 }
 
 /// What a step keeps of its message: a pacs.028 has OrgnlUETR and OrgnlEndToEndId in those places.
@@ -282,6 +297,7 @@ fn message_step(message: &Message, sender: u64) -> Step {
         Body::Payment(payment) => (room::PAYMENT, Some(&payment.reference)),
         Body::Liquidity(_) => (room::LIQUIDITY, None),
         Body::Request(request) => (room::REQUEST, Some(&request.original_reference)),
+        Body::Answer(_) => (room::ANSWER, None),
     };
     step[room::STEP_KIND] = kind;
     step[room::STEP_SENDER] = sender;

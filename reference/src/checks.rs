@@ -1,13 +1,14 @@
-//! The 34 checks (document 01, "The checks"; docs/CHECKS.md): their codes, each kind's order, and when each fails.
+//! The 37 checks (document 01, "The checks"; document 02, request 9; docs/CHECKS.md): their codes, each kind's order, and
+//! when each fails.
 
 use crate::directory::{self, Kind, Record};
-use crate::message::{Agent, Body, Liquidity, List, Message, Payment, Request};
+use crate::message::{Agent, Answer, Body, Liquidity, List, Message, Payment, Request, Verdict};
 use crate::room;
 use crate::shapes::{day_before, iban_remainder, is_good_identifier_of, NamedAccount, HRYVNIA};
 
-pub const CHECKS: usize = 34;
+pub const CHECKS: usize = 37;
 
-/// The SEP and ISO codes of checks 1 to 34. A row of camt.050 alone has no ISO code, and no camt.050 uses one.
+/// The SEP and ISO codes of checks 1 to 37. A row of camt.050 alone has no ISO code, and no camt.050 uses one.
 pub const CODES: [(&str, &str); CHECKS] = [
     ("TE03", "AGNT"),
     ("TE04", "AGNT"),
@@ -43,12 +44,22 @@ pub const CODES: [(&str, &str); CHECKS] = [
     ("H012", "RC09"),
     ("H013", "RC09"),
     ("T003", "AC03"),
+    ("X003", "NARR"),
+    ("TE10", "FF10"),
+    ("X004", "NARR"),
 ];
 
-pub const PAYMENT_ORDER: [u64; 23] =
-    [1, 2, 3, 5, 6, 7, 8, 17, 25, 27, 26, 28, 29, 30, 31, 32, 33, 34, 20, 21, 22, 23, 24];
+/// What a pacs.008 fails by at its submit; the money checks run when it is answered.
+pub const PAYMENT_ORDER: [u64; 18] = [1, 2, 3, 5, 6, 7, 8, 17, 25, 27, 26, 28, 29, 30, 31, 32, 33, 34];
 pub const LIQUIDITY_ORDER: [u64; 20] = [1, 2, 3, 4, 5, 7, 12, 13, 14, 15, 16, 6, 17, 18, 19, 20, 21, 22, 23, 24];
 pub const REQUEST_ORDER: [u64; 10] = [1, 2, 3, 5, 6, 7, 8, 9, 10, 11];
+pub const ANSWER_ORDER: [u64; 14] = [1, 2, 3, 5, 6, 7, 35, 36, 37, 20, 21, 22, 23, 24];
+
+/// Blocks, money and limits: the last checks of whatever moves money.
+pub const MONEY_CHECKS: [u64; 5] = [20, 21, 22, 23, 24];
+
+/// The checks that speak of what a receiver refuses: without TxSts, and with it.
+pub const REFUSAL_CHECKS: [u64; 2] = [36, 37];
 
 /// Checks 1 and 2 are refusals and appear on no slip.
 pub const CHECK_REFUSED_MOST: u64 = 2;
@@ -59,7 +70,14 @@ pub fn order(message: &Message) -> &'static [u64] {
         Body::Payment(_) => &PAYMENT_ORDER,
         Body::Liquidity(_) => &LIQUIDITY_ORDER,
         Body::Request(_) => &REQUEST_ORDER,
+        Body::Answer(_) => &ANSWER_ORDER,
     }
+}
+
+/// Whether a pacs.002 that fails this check first rejects the transfer: the checks of its order from 36 on. With one
+/// before 36 the transfer goes on waiting.
+pub fn rejects_transfer(check: u64) -> bool {
+    REFUSAL_CHECKS.contains(&check) || MONEY_CHECKS.contains(&check)
 }
 
 /// A message held against the checks: who sends it on which day, in which exercise.
@@ -83,6 +101,12 @@ pub fn payment_accounts(directory: &[Record], payment: &Payment) -> Accounts {
     Accounts { debit: second(payment.instructing), credit: second(payment.instructed) }
 }
 
+/// The accounts that a waiting transfer keeps, whichever directory has come since.
+fn kept_accounts(transfer: &[u64]) -> Accounts {
+    let kept = |number| Some(transfer[number] as usize);
+    Accounts { debit: kept(room::STEP_DEBIT), credit: kept(room::STEP_CREDIT) }
+}
+
 /// A camt.050's accounts: those that digit and code name, where the code is an owner's and the digit 1 or 2.
 pub fn liquidity_accounts(directory: &[Record], liquidity: &Liquidity) -> Accounts {
     let named = |account: NamedAccount| match account.digit {
@@ -94,10 +118,16 @@ pub fn liquidity_accounts(directory: &[Record], liquidity: &Liquidity) -> Accoun
     Accounts { debit: named(liquidity.debtor), credit: named(liquidity.creditor) }
 }
 
-/// The first pacs.008 step that has the OrgnlMsgId of a request.
-pub fn original_step<'a>(seat: &'a [u64], request: &Request) -> Option<&'a [u64]> {
-    room::journal(seat)
-        .find(|step| step[room::STEP_KIND] == room::PAYMENT && step[room::STEP_ID] == request.original_id.stored)
+/// The pacs.008 steps that have the OrgnlMsgId of a request, each with its number.
+fn original_steps<'a>(seat: &'a [u64], request: &'a Request<'a>) -> impl Iterator<Item = (u64, &'a [u64])> {
+    room::numbered(seat).filter(move |(_, step)| {
+        step[room::STEP_KIND] == room::PAYMENT && step[room::STEP_ID] == request.original_id.stored
+    })
+}
+
+/// The first of them, which a request is compared with.
+pub fn original_step<'a>(seat: &'a [u64], request: &'a Request<'a>) -> Option<(u64, &'a [u64])> {
+    original_steps(seat, request).next()
 }
 
 impl<'a> Case<'a> {
@@ -117,13 +147,11 @@ impl<'a> Case<'a> {
                 day != self.date && day != day_before(self.date)
             }
             (Body::Request(request), _) => self.request_fails(request, check),
+            (Body::Answer(answer), _) => self.answer_fails(answer, check),
             (_, 17) => room::journal(self.seat).any(|step| {
                 matches!(step[room::STEP_KIND], room::PAYMENT | room::LIQUIDITY)
                     && step[room::STEP_UETR] == self.message.uetr
             }),
-            (Body::Payment(payment), 20..=24) => {
-                self.money_fails(payment_accounts(self.directory, payment), payment.amount, check)
-            }
             (Body::Liquidity(liquidity), 20..=24) => {
                 self.money_fails(liquidity_accounts(self.directory, liquidity), liquidity.amount, check)
             }
@@ -143,17 +171,42 @@ impl<'a> Case<'a> {
         }
     }
 
-    /// 8 to 11 of a pacs.028.
+    /// 8 to 11 of a pacs.028. A transfer that waits cannot be asked after, and hides others that have its MsgId.
     fn request_fails(&self, request: &Request, check: u64) -> bool {
         match check {
             8 => request.instructing != self.sender,
             9 => !is_good_identifier_of(request.original_id.text, self.sender),
-            10 => original_step(self.seat, request).is_none(),
-            11 => original_step(self.seat, request).map_or(false, |step| {
+            10 => {
+                original_step(self.seat, request).is_none()
+                    || original_steps(self.seat, request).any(|(number, _)| room::waits(self.seat, number))
+            }
+            11 => original_step(self.seat, request).map_or(false, |(_, step)| {
                 step[room::STEP_CREATED] != request.original_created
                     || step[room::STEP_UETR] != self.message.uetr
                     || step[room::STEP_REFERENCE] != request.original_reference.stored
             }),
+            _ => false,
+        }
+    }
+
+    /// The transfer that a pacs.002 answers, and its number: the first that waits for this sender under that MsgId.
+    pub fn answered_step(&self, answer: &Answer) -> Option<(u64, &'a [u64])> {
+        room::numbered(self.seat).find(|(number, step)| {
+            room::waits(self.seat, *number)
+                && step[room::STEP_RECEIVER] == self.sender
+                && step[room::STEP_ID] == answer.original_id.stored
+        })
+    }
+
+    /// 35 to 37 of a pacs.002, and 20 to 24 where it agrees to a transfer: on the accounts that the transfer keeps.
+    fn answer_fails(&self, answer: &Answer, check: u64) -> bool {
+        match (check, self.answered_step(answer)) {
+            (35, transfer) => transfer.is_none(),
+            (36, _) => answer.verdict == Verdict::RefusesTechnically,
+            (37, _) => answer.verdict == Verdict::RefusesToCredit,
+            (20..=24, Some((_, transfer))) if answer.verdict == Verdict::Agrees => {
+                self.money_fails(kept_accounts(transfer), transfer[room::STEP_AMOUNT], check)
+            }
             _ => false,
         }
     }

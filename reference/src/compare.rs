@@ -8,7 +8,9 @@ use std::time::{Duration, Instant};
 
 use crate::checks::CODES;
 use crate::lessons::lesson;
-use crate::script::{lines, Player, Tally};
+use crate::room::ANSWER;
+use crate::script::{lines, Player, Tally, Triples};
+use crate::slip::{self, WAITS};
 
 /// A run of the program that takes longer is ended and counts as a difference.
 const TIME_LIMIT: Duration = Duration::from_secs(60);
@@ -174,12 +176,18 @@ fn stop(child: &mut Child) {
     child.wait().map(|_| ()).unwrap_or(());
 }
 
-/// One line, then how often each answer and each check came up: as the one answered, and in a list of `rows`.
+/// One line, then how often each answer, each check and each triple came up.
 fn print_summary(plan: &Plan, tally: &Tally) {
     println!("{} lessons, {} calls, seeds from {}: no difference", plan.lessons, tally.calls, plan.seed);
     let answers: Vec<String> =
         tally.answers.iter().enumerate().map(|(number, times)| format!("{}: {}", number, times)).collect();
     println!("answers  {}", answers.join("  "));
+    print_checks(tally);
+    print_triples(tally);
+}
+
+/// Each check with its codes: how often it was the one answered, and in a list of `rows`.
+fn print_checks(tally: &Tally) {
     println!("checks, answered and in rows (0 is none: {}):", tally.answered[0]);
     let cells: Vec<String> = (1..tally.answered.len())
         .map(|check| {
@@ -190,5 +198,61 @@ fn print_summary(plan: &Plan, tally: &Tally) {
         .collect();
     for row in cells.chunks(4) {
         println!("  {}", row.join("  | "));
+    }
+}
+
+/// The names of kinds from 1 on and of statuses from 0 on.
+const KIND_NAMES: [&str; ANSWER as usize] = ["pacs.008", "camt.050", "pacs.028", "pacs.002"];
+const STATUS_NAMES: [&str; WAITS as usize + 1] = ["PDNG", "ACCC", "RJCT", "waits"];
+
+/// So many checks stand on a line.
+const CHECKS_ON_A_LINE: usize = 9;
+
+/// The triples of each kind and status, under a name.
+fn named_results() -> Vec<(String, Vec<[u64; 3]>)> {
+    let mut groups: Vec<(String, Vec<[u64; 3]>)> = Vec::new();
+    for triple in slip::results() {
+        let name = format!("{} {}", KIND_NAMES[triple[0] as usize - 1], STATUS_NAMES[triple[1] as usize]);
+        match groups.last_mut() {
+            Some((last, triples)) if *last == name => triples.push(triple),
+            _ => groups.push((name, vec![triple])),
+        }
+    }
+    groups
+}
+
+/// Each triple that a slip can have, by its check: how often a submit gave it, and how often it was written and read.
+fn print_triples(tally: &Tally) {
+    println!("slips, each check with submits/written/read:");
+    let cell = |triple: &[u64; 3]| {
+        let [submitted, written, read] =
+            [&tally.submitted, &tally.written, &tally.read].map(|counted| counted.get(triple).copied().unwrap_or(0));
+        format!("{:>2} {:<9}", triple[2], format!("{}/{}/{}", submitted, written, read))
+    };
+    for (name, triples) in named_results() {
+        let rows: Vec<String> = triples
+            .chunks(CHECKS_ON_A_LINE)
+            .map(|some| some.iter().map(cell).collect::<Vec<String>>().join(" ").trim_end().to_string())
+            .collect();
+        println!("  {:<14} {}", name, rows.join("\n                 "));
+    }
+    println!("given by no submit: {}", missing(&tally.submitted));
+    println!("never written: {}; never read: {}", missing(&tally.written), missing(&tally.read));
+}
+
+/// The triples that did not come up.
+fn missing(counted: &Triples) -> String {
+    let mut named = Vec::new();
+    for (name, triples) in named_results() {
+        let never = triples.iter().filter(|triple| !counted.contains_key(*triple));
+        let checks: Vec<String> = never.map(|triple| triple[2].to_string()).collect();
+        if !checks.is_empty() {
+            named.push(format!("{} {}", name, checks.join(" ")));
+        }
+    }
+    if named.is_empty() {
+        "none".to_string()
+    } else {
+        named.join(", ")
     }
 }

@@ -2,10 +2,13 @@
 //! so that it knows the room and can send messages that mean something there.
 
 mod accounts;
+mod answers;
 mod attempts;
 mod damage;
 mod dice;
 mod drafts;
+mod journals;
+mod money;
 mod pokes;
 mod posts;
 mod seats;
@@ -18,6 +21,9 @@ use crate::script::Player;
 use dice::Dice;
 use drafts::Draft;
 
+/// Seeds so far apart have the same turn; it is more than any number of turns.
+const TURNS: u64 = 1 << 32;
+
 /// A lesson ends before it has so many bytes.
 const BYTES_MOST: usize = 480_000;
 
@@ -26,7 +32,9 @@ const EDGES: [u64; 18] =
     [0, 1, 2, 3, 11, 12, 24, 25, 31, 32, 65_535, 65_536, 999_999, 1_000_000, SUM_MOST, SUM_MOST + 1, 1 << 63, u64::MAX];
 
 /// What a lesson does next, by weight.
-const ACTIONS: [fn(&mut Maker); 16] = [
+const ACTIONS: [fn(&mut Maker); 18] = [
+    Maker::follow_transfer,
+    Maker::send_pairs,
     Maker::send_valid,
     Maker::send_spoiled,
     Maker::send_faulty,
@@ -45,15 +53,16 @@ const ACTIONS: [fn(&mut Maker); 16] = [
     Maker::show,
 ];
 
-/// The weights of a theme: a bit of all, one full journal, sheets, rooms and tickets, money.
-const THEMES: [[u64; 16]; 5] = [
-    [22, 20, 7, 7, 5, 3, 6, 6, 5, 5, 4, 6, 8, 2, 2, 4],
-    [40, 30, 2, 2, 6, 4, 4, 2, 4, 0, 2, 2, 4, 1, 0, 3],
-    [10, 8, 32, 35, 3, 2, 2, 2, 1, 2, 1, 4, 1, 1, 1, 2],
-    [18, 8, 2, 2, 3, 5, 6, 5, 5, 9, 8, 10, 24, 5, 3, 3],
-    [30, 22, 1, 1, 5, 1, 14, 12, 6, 2, 1, 2, 6, 1, 0, 3],
+/// The weights of a theme: a bit of all, one full journal, sheets, rooms and tickets, money, transfers and their answers.
+const THEMES: [[u64; 18]; 6] = [
+    [4, 0, 18, 28, 7, 7, 5, 3, 6, 6, 5, 5, 6, 7, 11, 4, 3, 4],
+    [4, 2, 24, 44, 2, 2, 6, 4, 4, 2, 4, 0, 3, 3, 8, 2, 0, 3],
+    [1, 0, 9, 9, 34, 37, 3, 2, 2, 2, 1, 2, 1, 5, 1, 1, 1, 2],
+    [3, 0, 12, 10, 2, 2, 3, 5, 6, 5, 5, 9, 13, 14, 36, 9, 5, 3],
+    [6, 1, 16, 34, 1, 1, 5, 1, 12, 10, 6, 2, 1, 2, 8, 1, 0, 3],
+    [12, 1, 10, 28, 4, 1, 4, 1, 3, 6, 3, 1, 1, 4, 22, 1, 3, 6],
 ];
-const THEME_WEIGHTS: [u64; 5] = [35, 15, 20, 15, 15];
+const THEME_WEIGHTS: [u64; 6] = [28, 14, 16, 15, 12, 15];
 const FULL_JOURNAL: usize = 1;
 /// So many lessons in a hundred begin with all seats open, as a full class has them.
 const CLASS_PERCENT: u64 = 6;
@@ -105,6 +114,7 @@ pub fn lesson(seed: u64, calls: u64) -> Vec<u8> {
         touched: Vec::new(),
     };
     maker.start(seats);
+    maker.use_slips_in_turn(seed % TURNS);
     while maker.player.tally.calls < calls && maker.script.len() < BYTES_MOST {
         maker.mend();
         let action = ACTIONS[maker.dice.weighed(&THEMES[theme])];
@@ -179,8 +189,8 @@ impl Maker {
             self.lay();
         }
         let (number, opening) = self.ticket();
-        if room::steps(self.seat(number)) == STEPS && self.dice.chance(30) {
-            for _ in 0..self.dice.between(1, 4) {
+        if room::steps(self.seat(number)) == STEPS && self.dice.chance(45) {
+            for _ in 0..self.dice.between(1, 7) {
                 self.line(&format!("back {} {}", number, opening));
             }
         }

@@ -1,7 +1,7 @@
-//! A message's fields by their paths (document 01, "Fields"). A fault is told by the field's number in its kind's list;
-//! 0 tells that the message is unknown.
+//! A message's fields by their paths (document 01, "Fields"; for pacs.002 document 02, request 9). A fault is told by the
+//! field's number in its kind's list; 0 tells that the message is unknown.
 
-use crate::shapes::{self, Currency, Identifier, NamedAccount, Uetr, HRYVNIA};
+use crate::shapes::{self, Currency, Identifier, NamedAccount, Uetr, HRYVNIA, NO_UETR};
 use crate::sheet::Sheet;
 
 pub struct Message<'a> {
@@ -15,6 +15,7 @@ pub enum Body<'a> {
     Payment(Payment<'a>),
     Liquidity(Liquidity),
     Request(Request<'a>),
+    Answer(Answer<'a>),
 }
 
 /// pacs.008
@@ -57,6 +58,23 @@ pub struct Request<'a> {
     pub original_id: Identifier<'a>,
     pub original_created: u64,
     pub original_reference: Identifier<'a>,
+}
+
+/// pacs.002. Its message has no UETR.
+pub struct Answer<'a> {
+    pub original_id: Identifier<'a>,
+    pub verdict: Verdict,
+}
+
+/// What the receiving bank says to a transfer.
+#[derive(Clone, Copy, PartialEq, Eq)]
+pub enum Verdict {
+    /// GrpSts ACCP
+    Agrees,
+    /// GrpSts RJCT without TxSts
+    RefusesTechnically,
+    /// GrpSts RJCT with TxSts
+    RefusesToCredit,
 }
 
 pub type Path = &'static [&'static [u8]];
@@ -103,12 +121,22 @@ pub const REQUEST_FIELDS: [Path; 8] = [
     &[b"TxInf", b"OrgnlEndToEndId"],
 ];
 
+pub const ANSWER_BODY: &[u8] = b"FIToFIPmtStsRpt";
+pub const ANSWER_FIELDS: [Path; 5] = [
+    &[b"GrpHdr", b"MsgId"],
+    &[b"GrpHdr", b"CreDtTm"],
+    &[b"OrgnlGrpInfAndSts", b"OrgnlMsgId"],
+    &[b"OrgnlGrpInfAndSts", b"GrpSts"],
+    &[b"TxInfAndSts", b"TxSts"],
+];
+
 /// The message of a sheet, or the number of the first field in the list that is at fault.
 pub fn message<'a>(sheet: &Sheet<'a>) -> Result<Message<'a>, u64> {
     match body_name(sheet) {
         Some(name) if name == PAYMENT_BODY => payment(&Fields::find(sheet, &PAYMENT_FIELDS)),
         Some(name) if name == LIQUIDITY_BODY => liquidity(&Fields::find(sheet, &LIQUIDITY_FIELDS)),
         Some(name) if name == REQUEST_BODY => request(&Fields::find(sheet, &REQUEST_FIELDS)),
+        Some(name) if name == ANSWER_BODY => answer(&Fields::find(sheet, &ANSWER_FIELDS)),
         _ => Err(0),
     }
 }
@@ -208,6 +236,24 @@ fn payment_name(text: &[u8]) -> Option<Identifier<'_>> {
     shapes::identifier(text).filter(|name| name.text.starts_with(b"pacs.008"))
 }
 
+/// GrpSts: whether it agrees.
+fn group_status(text: &[u8]) -> Option<bool> {
+    match text {
+        b"ACCP" => Some(true),
+        b"RJCT" => Some(false),
+        _ => None,
+    }
+}
+
+/// TxSts has but one text.
+fn transfer_status(text: &[u8]) -> Option<()> {
+    if text == b"RJCT" {
+        Some(())
+    } else {
+        None
+    }
+}
+
 // The fields are asked for in the order of their numbers, so the first fault found has the lowest.
 
 fn payment<'a>(fields: &Fields<'_, 'a>) -> Result<Message<'a>, u64> {
@@ -252,4 +298,18 @@ fn request<'a>(fields: &Fields<'_, 'a>) -> Result<Message<'a>, u64> {
     let original_reference = fields.one(8, shapes::identifier)?;
     let request = Request { instructing, original_id, original_created, original_reference };
     Ok(Message { id, created, uetr, body: Body::Request(request) })
+}
+
+fn answer<'a>(fields: &Fields<'_, 'a>) -> Result<Message<'a>, u64> {
+    let id = fields.one(1, shapes::identifier)?;
+    let created = fields.one(2, shapes::time)?;
+    let original_id = fields.one(3, shapes::identifier)?;
+    let agrees = fields.one(4, group_status)?;
+    let verdict = match (agrees, fields.optional(5, transfer_status)?) {
+        (true, None) => Verdict::Agrees,
+        (true, Some(())) => return Err(5), // beside ACCP any TxSts is ill-shaped
+        (false, None) => Verdict::RefusesTechnically,
+        (false, Some(())) => Verdict::RefusesToCredit,
+    };
+    Ok(Message { id, created, uetr: NO_UETR, body: Body::Answer(Answer { original_id, verdict }) })
 }

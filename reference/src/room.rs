@@ -1,5 +1,6 @@
 //! The room (docs/LAYOUT.md): 12 seats in one slice of numbers, and when such a slice is fit.
 
+use crate::checks::{self, MONEY_CHECKS};
 use crate::shapes::{self, AMOUNT_MOST, CODE_MOST};
 use crate::slip;
 
@@ -10,7 +11,7 @@ pub const STEPS: usize = 24;
 
 pub const HEAD_LONG: usize = 3;
 pub const ACCOUNT_LONG: usize = 7;
-pub const STEP_LONG: usize = 29;
+pub const STEP_LONG: usize = 31;
 const ACCOUNTS_FROM: usize = HEAD_LONG;
 const JOURNAL_FROM: usize = ACCOUNTS_FROM + ACCOUNTS * ACCOUNT_LONG;
 pub const SEAT_LONG: usize = JOURNAL_FROM + STEPS * STEP_LONG;
@@ -50,14 +51,17 @@ pub const STEP_AMOUNT: usize = 19;
 pub const STEP_ACCOUNT: usize = 20;
 pub const STEP_OLD: std::ops::Range<usize> = 21..25;
 pub const STEP_GIVEN: std::ops::Range<usize> = 25..29;
-const STEP_MOVEMENT: std::ops::Range<usize> = 17..20;
+pub const STEP_RECEIVER: usize = 29;
+pub const STEP_ANSWERS: usize = 30;
+pub const STEP_MOVEMENT: std::ops::Range<usize> = 17..20;
 const STEP_SETTING: std::ops::Range<usize> = 20..29;
 
-// kinds of steps; the first three are those of messages and stand on slips
+// kinds of steps; the first four are those of messages and stand on slips
 pub const PAYMENT: u64 = 1;
 pub const LIQUIDITY: u64 = 2;
 pub const REQUEST: u64 = 3;
-pub const SET: u64 = 4;
+pub const ANSWER: u64 = 4;
+pub const SET: u64 = 5;
 
 pub type Step = [u64; STEP_LONG];
 
@@ -92,6 +96,37 @@ pub fn journal(seat: &[u64]) -> impl Iterator<Item = &[u64]> {
     seat[JOURNAL_FROM..].chunks_exact(STEP_LONG).take(steps(seat))
 }
 
+/// The steps of a fit seat's journal with their numbers, which begin with 1.
+pub fn numbered(seat: &[u64]) -> impl Iterator<Item = (u64, &[u64])> {
+    (1..).zip(journal(seat))
+}
+
+/// The first step that answers the one with a number, and its own number.
+fn answer_to(seat: &[u64], number: u64) -> Option<(u64, &[u64])> {
+    numbered(seat).find(|(_, step)| step[STEP_ANSWERS] == number)
+}
+
+fn is_waiting(step: &[u64]) -> bool {
+    step[STEP_KIND] == PAYMENT && step[STEP_STATUS] == slip::WAITS
+}
+
+/// Whether the step with a number is a transfer that no step has answered.
+pub fn waits(seat: &[u64], number: u64) -> bool {
+    is_waiting(step(seat, number)) && answer_to(seat, number).is_none()
+}
+
+/// Status and check of the step with a number as they stand: its answer's where there is one, else its own.
+pub fn result_now(seat: &[u64], number: u64) -> (u64, u64) {
+    let step = answer_to(seat, number).map_or(step(seat, number), |(_, answer)| answer);
+    (step[STEP_STATUS], step[STEP_CHECK])
+}
+
+/// The step with a number, 1 to 24.
+pub fn step(seat: &[u64], number: u64) -> &[u64] {
+    let from = JOURNAL_FROM + (number as usize - 1) * STEP_LONG;
+    &seat[from..from + STEP_LONG]
+}
+
 /// Puts a step behind the last one and carries it out. There is room for it, and it does not take more than there is.
 pub fn add_step(seat: &mut [u64], step: &Step) {
     let from = JOURNAL_FROM + steps(seat) * STEP_LONG;
@@ -123,6 +158,9 @@ fn carry_out(accounts: &mut [u64], step: &[u64]) -> bool {
         settings.copy_from_slice(&step[STEP_GIVEN]);
         return are_old;
     }
+    if is_waiting(step) {
+        return true; // what it keeps is moved by its answer
+    }
     let (debit, credit, amount) = (step[STEP_DEBIT], step[STEP_CREDIT], step[STEP_AMOUNT]);
     accounts[at(debit, TURNOVER)] += amount;
     if debit == credit {
@@ -140,6 +178,9 @@ fn undo(accounts: &mut [u64], step: &[u64]) {
     if step[STEP_KIND] == SET {
         let from = at(step[STEP_ACCOUNT], SETTINGS.start);
         accounts[from..from + SETTINGS.len()].copy_from_slice(&step[STEP_OLD]);
+        return;
+    }
+    if is_waiting(step) {
         return;
     }
     let (debit, credit, amount) = (step[STEP_DEBIT], step[STEP_CREDIT], step[STEP_AMOUNT]);
@@ -181,50 +222,96 @@ fn comes_out(seat: &[u64]) -> bool {
         worked[BALANCE] = account[OPENING_SUM];
     }
     let unused = JOURNAL_FROM + steps(seat) * STEP_LONG;
-    journal(seat).all(|step| has_ranges(step) && carry_out(&mut accounts, step))
-        && are_zeros(&seat[unused..])
+    numbered(seat).all(|(number, step)| {
+        has_ranges(step) && answers_a_waiting_one(seat, number, step) && carry_out(&mut accounts, step)
+    }) && are_zeros(&seat[unused..])
         && accounts == *stored
+}
+
+/// A step that answers another stands after it; that one waits, no step in between has answered it, and where the answer
+/// moves money it is what the other keeps.
+fn answers_a_waiting_one(seat: &[u64], number: u64, answer: &[u64]) -> bool {
+    let answered = answer[STEP_ANSWERS];
+    if answered == 0 || answered >= number {
+        return answered == 0;
+    }
+    let transfer = step(seat, answered);
+    is_waiting(transfer)
+        && answer_to(seat, answered).map_or(false, |(first, _)| first == number)
+        && (answer[STEP_STATUS] != slip::ACCC || answer[STEP_MOVEMENT] == transfer[STEP_MOVEMENT])
 }
 
 /// The ranges of a step: what its kind has is right, what it lacks is zero.
 fn has_ranges(step: &[u64]) -> bool {
     match step[STEP_KIND] {
-        PAYMENT | LIQUIDITY | REQUEST => {
-            slip::is_result(step[STEP_KIND], step[STEP_STATUS], step[STEP_CHECK])
+        PAYMENT | LIQUIDITY | REQUEST | ANSWER => {
+            has_result(step)
                 && step[STEP_SENDER] <= CODE_MOST
                 && shapes::is_stored_identifier(&step[STEP_ID])
-                && shapes::is_stored_uetr(&step[STEP_UETR])
                 && shapes::is_time(step[STEP_CREATED])
+                && has_uetr(step)
                 && has_reference(step)
                 && has_movement(step)
                 && are_zeros(&step[STEP_SETTING])
+                && has_receiver(step)
+                && has_answered(step)
         }
         SET => {
             are_zeros(&step[STEP_STATUS..STEP_ACCOUNT])
                 && step[STEP_ACCOUNT] < ACCOUNTS as u64
                 && are_settings(&step[STEP_OLD])
                 && are_settings(&step[STEP_GIVEN])
+                && are_zeros(&step[STEP_GIVEN.end..])
         }
         _ => false,
     }
 }
 
-/// A camt.050 has no end-to-end identifier.
+/// A result that the kind's slips have. A pacs.008's submit neither carries it out nor looks at money, though a slip may
+/// say so.
+fn has_result(step: &[u64]) -> bool {
+    let (kind, status, check) = (step[STEP_KIND], step[STEP_STATUS], step[STEP_CHECK]);
+    let is_settled = kind == PAYMENT && (status == slip::ACCC || MONEY_CHECKS.contains(&check));
+    slip::is_result(kind, status, check) && !is_settled
+}
+
+/// A pacs.002 has no UETR.
+fn has_uetr(step: &[u64]) -> bool {
+    if step[STEP_KIND] == ANSWER {
+        step[STEP_UETR] == shapes::NO_UETR
+    } else {
+        shapes::is_stored_uetr(&step[STEP_UETR])
+    }
+}
+
+/// A camt.050 has no end-to-end identifier, and neither has a pacs.002.
 fn has_reference(step: &[u64]) -> bool {
-    if step[STEP_KIND] == LIQUIDITY {
+    if matches!(step[STEP_KIND], LIQUIDITY | ANSWER) {
         are_zeros(&step[STEP_REFERENCE])
     } else {
         shapes::is_stored_identifier(&step[STEP_REFERENCE])
     }
 }
 
-/// A movement stands exactly where a transfer was carried out: between the two accounts of one place for camt.050,
-/// between accounts 2 for pacs.008.
+/// The receiver is kept exactly by a transfer that waits or waited.
+fn has_receiver(step: &[u64]) -> bool {
+    step[STEP_RECEIVER] <= if is_waiting(step) { CODE_MOST } else { 0 }
+}
+
+/// A pacs.002 names the step that it answers exactly where it settled or rejected it.
+fn has_answered(step: &[u64]) -> bool {
+    let is_answer =
+        step[STEP_KIND] == ANSWER && (step[STEP_STATUS] == slip::ACCC || checks::rejects_transfer(step[STEP_CHECK]));
+    (step[STEP_ANSWERS] != 0) == is_answer
+}
+
+/// A movement stands exactly where money was moved or is to be: between the two accounts of one place for camt.050,
+/// between accounts 2 for a pacs.008 that waits and for the pacs.002 that settles it.
 fn has_movement(step: &[u64]) -> bool {
     let (debit, credit, amount) = (step[STEP_DEBIT], step[STEP_CREDIT], step[STEP_AMOUNT]);
     let are_accounts = debit < ACCOUNTS as u64 && credit < ACCOUNTS as u64 && (1..=AMOUNT_MOST).contains(&amount);
     match (step[STEP_KIND], step[STEP_STATUS]) {
-        (PAYMENT, slip::ACCC) => are_accounts && debit % 2 == 1 && credit % 2 == 1,
+        (PAYMENT, slip::WAITS) | (ANSWER, slip::ACCC) => are_accounts && debit % 2 == 1 && credit % 2 == 1,
         (LIQUIDITY, slip::ACCC) => are_accounts && debit ^ credit == 1,
         _ => are_zeros(&step[STEP_MOVEMENT]),
     }

@@ -1,6 +1,8 @@
 //! Plays a script in the drill program's language and writes the lines that program prints. A line is a word and
 //! numbers; behind a call stand ` ->`, the answer's number, its detail and its values, and for a slip its buffer.
 
+use std::collections::BTreeMap;
+
 use crate::calls::{self, AccountName, Refusal, Sent, Settings, Ticket};
 use crate::checks::{self, Case, CHECKS};
 use crate::directory::{self, Kind, Record};
@@ -17,19 +19,38 @@ const NUMBERS_MOST: usize = 35;
 const BUFFER_MOST: u64 = 8;
 pub const BUFFER_BYTE: u8 = 170;
 
-/// How often each answer was given; how often each check was the one answered; how often `rows` listed it.
+/// How often a slip had a kind, a status and a check.
+pub type Triples = BTreeMap<[u64; 3], u64>;
+
+/// How often each answer was given; how often each check was the one answered; how often `rows` listed it; how often each
+/// triple stood on the slip of a submit, was written and was read.
 #[derive(Clone)]
 pub struct Tally {
     pub calls: u64,
     pub answers: [u64; 13],
     pub answered: [u64; CHECKS + 1],
     pub listed: [u64; CHECKS + 1],
+    pub submitted: Triples,
+    pub written: Triples,
+    pub read: Triples,
 }
 
 impl Tally {
     pub fn new() -> Tally {
-        Tally { calls: 0, answers: [0; 13], answered: [0; CHECKS + 1], listed: [0; CHECKS + 1] }
+        Tally {
+            calls: 0,
+            answers: [0; 13],
+            answered: [0; CHECKS + 1],
+            listed: [0; CHECKS + 1],
+            submitted: Triples::new(),
+            written: Triples::new(),
+            read: Triples::new(),
+        }
     }
+}
+
+fn count(triples: &mut Triples, slip: &Slip) {
+    *triples.entry([slip.kind, slip.status, slip.check]).or_insert(0) += 1;
 }
 
 /// One room with one directory, and what has come up so far.
@@ -248,6 +269,7 @@ impl Player {
             Ok(()) => {
                 let slip = Slip::read(&buffer[..SLIP_LONG]).expect("a submit that is done writes a slip");
                 self.tally.answered[slip.check as usize] += 1;
+                count(&mut self.tally.submitted, &slip);
             }
             Err(Refusal::SenderRefused(check)) => self.tally.answered[check as usize] += 1,
             Err(_) => {}
@@ -260,6 +282,9 @@ impl Player {
         let mut buffer = buffer_of(line.number(6));
         let slip = Slip::new([0, 1, 2, 3, 4, 5].map(|at| line.number(at)));
         let answer = calls::write_slip(&slip, &mut buffer);
+        if answer.is_ok() {
+            count(&mut self.tally.written, &slip);
+        }
         self.answer(answer.map(|()| []), out);
         put_slip(out, &buffer);
     }
@@ -267,10 +292,13 @@ impl Player {
     fn slip(&mut self, line: &Line, out: &mut Vec<u8>) {
         let bytes = line.words.get(1).map_or(Vec::new(), |word| bytes_of(word));
         let answer = calls::read_slip(&bytes);
+        if let Ok(slip) = &answer {
+            count(&mut self.tally.read, slip);
+        }
         self.answer(answer.map(|slip| slip.values()), out);
     }
 
-    /// Every check that a message fails, each by itself, where there is a message.
+    /// Every check of its order that a message fails, each by itself, where there is a message.
     fn rows(&mut self, line: &Line, out: &mut Vec<u8>) {
         let (shown, bytes) = line.parted(4);
         out.extend_from_slice(shown);

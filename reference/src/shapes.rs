@@ -21,6 +21,9 @@ pub const HRYVNIA: Currency = *b"UAH";
 /// A UETR as a room keeps it: 32 hexadecimal digits in two numbers.
 pub type Uetr = [u64; 2];
 
+/// What stands for the UETR of a message that has none. No UETR is zeros: its version is 4.
+pub const NO_UETR: Uetr = [0; 2];
+
 /// An identifier: its bytes, and the numbers that a room keeps.
 #[derive(Clone, Copy)]
 pub struct Identifier<'a> {

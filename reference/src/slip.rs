@@ -1,12 +1,17 @@
-//! The slip (document 01, "The slip"; document 02, request 8): fields of bits, the most significant first, in one of two
-//! forms. Both are read, and the length alone says which form it is; the six-byte form alone is written.
+//! The slip (document 01, "The slip"; document 02, requests 8 and 9): fields of bits, the most significant first, in one
+//! of two forms. Both are read, and the length alone says which form it is; the six-byte form alone is written.
 
-use crate::checks::{CHECK_REFUSED_MOST, LIQUIDITY_ORDER, PAYMENT_ORDER, REQUEST_ORDER};
-use crate::room::{LIQUIDITY, OPENING_MOST, PAYMENT, REQUEST, SEATS, STEPS};
+use crate::checks::{
+    ANSWER_ORDER, CHECKS, CHECK_REFUSED_MOST, LIQUIDITY_ORDER, MONEY_CHECKS, PAYMENT_ORDER, REFUSAL_CHECKS,
+    REQUEST_ORDER,
+};
+use crate::room::{ANSWER, LIQUIDITY, OPENING_MOST, PAYMENT, REQUEST, SEATS, STEPS};
 
 pub const PDNG: u64 = 0;
 pub const ACCC: u64 = 1;
 pub const RJCT: u64 = 2;
+/// A pacs.008 that the receiving bank is yet to answer.
+pub const WAITS: u64 = 3;
 
 /// What slips of one length look like.
 #[derive(Clone, Copy)]
@@ -19,13 +24,18 @@ pub struct Form {
     pub zero_bits: u32,
     /// They are for seats below this.
     pub seats: u64,
+    /// Whether they can have this kind, status and check.
+    pub has_result: fn(u64, u64, u64) -> bool,
 }
 
-/// Document 01's form. Mark books hold such slips, so it keeps its eight seats and is read for good; no call writes it.
-pub const FIVE_BYTES: Form = Form { long: 5, widths: [3, 2, 6, 3, 16, 10], zero_bits: 0, seats: 8 };
+/// Document 01's form. Mark books hold such slips, so it keeps its eight seats and its results and is read for good; no
+/// call writes it.
+pub const FIVE_BYTES: Form =
+    Form { long: 5, widths: [3, 2, 6, 3, 16, 10], zero_bits: 0, seats: 8, has_result: is_first_result };
 
 /// The form that is written. Seats 12 to 15 fit into its four bits and are no slip.
-pub const SIX_BYTES: Form = Form { long: 6, widths: [3, 2, 6, 4, 16, 10], zero_bits: 7, seats: SEATS as u64 };
+pub const SIX_BYTES: Form =
+    Form { long: 6, widths: [3, 2, 6, 4, 16, 10], zero_bits: 7, seats: SEATS as u64, has_result: is_result };
 
 /// How many bytes a call writes.
 pub const SLIP_LONG: usize = SIX_BYTES.long;
@@ -40,17 +50,40 @@ pub struct Slip {
     pub step: u64,
 }
 
-/// Whether a kind's slips can have this status with this check: 71 triples. A transfer is ACCC or RJCT by a check of
-/// its order, a pacs.028 PDNG by a check of its own or the result of a pacs.008. Checks 1 and 2 never appear.
-pub fn is_result(kind: u64, status: u64, check: u64) -> bool {
-    let is_of = |order: &[u64]| check > CHECK_REFUSED_MOST && order.contains(&check);
+/// Whether a slip can have this check by one of these lists. Checks 1 and 2 never appear.
+fn is_of(check: u64, lists: &[&[u64]]) -> bool {
+    check > CHECK_REFUSED_MOST && lists.iter().any(|list| list.contains(&check))
+}
+
+/// The 71 triples of document 01, which both forms have. A transfer is ACCC or RJCT by a check of its order, to which
+/// the money checks belonged for a pacs.008 too; a pacs.028 is PDNG by a check of its own or has the result of a pacs.008.
+fn is_first_result(kind: u64, status: u64, check: u64) -> bool {
     match (kind, status) {
         (PAYMENT | LIQUIDITY | REQUEST, ACCC) => check == 0,
-        (PAYMENT | REQUEST, RJCT) => is_of(&PAYMENT_ORDER),
-        (LIQUIDITY, RJCT) => is_of(&LIQUIDITY_ORDER),
-        (REQUEST, PDNG) => is_of(&REQUEST_ORDER),
+        (PAYMENT | REQUEST, RJCT) => is_of(check, &[&PAYMENT_ORDER, &MONEY_CHECKS]),
+        (LIQUIDITY, RJCT) => is_of(check, &[&LIQUIDITY_ORDER]),
+        (REQUEST, PDNG) => is_of(check, &[&REQUEST_ORDER]),
         _ => false,
     }
+}
+
+/// The 87 triples of six bytes: also a pacs.008 that waits, a pacs.028 about one that its receiver refused, and a
+/// pacs.002, ACCC or RJCT by a check of its order.
+pub fn is_result(kind: u64, status: u64, check: u64) -> bool {
+    let is_later = match (kind, status) {
+        (PAYMENT, WAITS) | (ANSWER, ACCC) => check == 0,
+        (REQUEST, RJCT) => is_of(check, &[&REFUSAL_CHECKS]),
+        (ANSWER, RJCT) => is_of(check, &[&ANSWER_ORDER]),
+        _ => false,
+    };
+    is_later || is_first_result(kind, status, check)
+}
+
+/// The 87 triples in ascending order.
+pub fn results() -> impl Iterator<Item = [u64; 3]> {
+    let pairs = (PAYMENT..=ANSWER).flat_map(|kind| (PDNG..=WAITS).map(move |status| (kind, status)));
+    let all = pairs.flat_map(|(kind, status)| (0..=CHECKS as u64).map(move |check| [kind, status, check]));
+    all.filter(|[kind, status, check]| is_result(*kind, *status, *check))
 }
 
 impl Slip {
@@ -77,7 +110,7 @@ fn lowest(number: u64, bits: u32) -> u64 {
 impl Form {
     /// Whether there is such a slip, reachable or not.
     fn has(&self, slip: &Slip) -> bool {
-        is_result(slip.kind, slip.status, slip.check)
+        (self.has_result)(slip.kind, slip.status, slip.check)
             && slip.seat < self.seats
             && (1..=OPENING_MOST).contains(&slip.opening)
             && (1..=STEPS as u64).contains(&slip.step)

@@ -1,6 +1,6 @@
 /*
- * Calls the static library from C. Plays the eleven cases of document 01 and every call in seats 8 to 11, then brings about each refusal, 1 to 12,
- * and what stands just beside it.
+ * Calls the static library from C. Plays the eleven cases of document 01, the two stages of a transfer, and every call in seats 8 to 11; then
+ * brings about each refusal, 1 to 12, and what stands just beside it.
  * A line for each check; the last line counts them, and the exit status is 0 where none is wrong.
  * What is wanted is written here by hand, slips too (`slip_bytes` packs them anew): nothing of the library is used to judge the library.
  */
@@ -15,6 +15,10 @@
 #define SEAT_NUMBERS (DAMVURIT_ROOM_SIZE / DAMVURIT_SEATS)
 #define EIGHT_SEATS_NUMBERS (8 * SEAT_NUMBERS)
 #define STEPS 24
+#define STEPS_FROM 227
+#define STEP_NUMBERS 31
+#define RECEIVER_AT 29
+#define ANSWERS_AT 30
 #define UNTOUCHED_BYTE 0xAA
 #define UNTOUCHED_NUMBER UINT64_C(0xAAAAAAAAAAAAAAAA)
 #define HIGHEST UINT64_C(1000000000000000)
@@ -129,10 +133,20 @@ static void pacs028(char digit, char original) {
                 digit, original, original);
 }
 
+#define REFUSED "<TxInfAndSts><TxSts>RJCT</TxSts></TxInfAndSts>"
+
+/* pacs.002: what a sender answers to the pacs.008 with another digit, with TxSts or nothing after the group's status */
+static void pacs002(unsigned sender, char digit, char original, const char *group, const char *transaction) {
+    write_sheet("<Document><FIToFIPmtStsRpt><GrpHdr><MsgId>%u202403010000000%c</MsgId><CreDtTm>" MORNING "</CreDtTm></GrpHdr>"
+                "<OrgnlGrpInfAndSts><OrgnlMsgId>300001202403010000000%c</OrgnlMsgId><GrpSts>%s</GrpSts></OrgnlGrpInfAndSts>%s"
+                "</FIToFIPmtStsRpt></Document>",
+                sender, digit, original, group, transaction);
+}
+
 /* ---- Slips. The buffer has two bytes more than a slip that is written, which no call may touch. */
 
-enum { PACS008 = 1, CAMT050 = 2, PACS028 = 3 };
-enum { PDNG = 0, ACCC = 1, RJCT = 2 };
+enum { PACS008 = 1, CAMT050 = 2, PACS028 = 3, PACS002 = 4 };
+enum { PDNG = 0, ACCC = 1, RJCT = 2, WAITS = 3 };
 
 static uint8_t slip[DAMVURIT_SLIP_SIZE + 2];
 
@@ -210,11 +224,20 @@ static int out_is(const uint64_t want[7]) {
     return memcmp(out, want, 7 * sizeof out[0]) == 0 && out[7] == UNTOUCHED_NUMBER && out[8] == UNTOUCHED_NUMBER;
 }
 
-static void holds(uint64_t account, uint64_t opening_sum, uint64_t balance, uint64_t turnover, uint64_t ltk, uint64_t lpo, const char *what) {
-    const uint64_t want[7] = {opening_sum, balance, turnover, 0, 0, ltk, lpo};
-    same(read_with(LENT(directory), seat, opening, 300001, account), 0, what);
+static void holds_of(uint64_t owner, uint64_t account, const uint64_t want[7], const char *what) {
+    same(read_with(LENT(directory), seat, opening, owner, account), 0, what);
     checked(out_is(want), "       its seven numbers");
     checked(room_stays(), "       the room stays");
+}
+
+static void holds(uint64_t account, uint64_t opening_sum, uint64_t balance, uint64_t turnover, uint64_t ltk, uint64_t lpo, const char *what) {
+    holds_of(300001, account, (const uint64_t[7]){opening_sum, balance, turnover, 0, 0, ltk, lpo}, what);
+}
+
+/* Accounts 2 of both owners, by their balances and what went out of the first. */
+static void balances(uint64_t first, uint64_t turnover, uint64_t second, const char *what) {
+    holds(2, 10000, first, turnover, 0, NO_LPO, what);
+    holds_of(300002, 2, (const uint64_t[7]){0, second, 0, 0, 0, 0, NO_LPO}, "       account 2 of 300002");
 }
 
 static void not_read(uint64_t got, uint64_t want, const char *what) {
@@ -295,7 +318,7 @@ static void case_5(void) {
 static void case_6(void) {
     begin();
     pacs008('1', IBAN "1");
-    taken(300001, PACS008, ACCC, 0, 1, "case 6: a right IBAN");
+    taken(300001, PACS008, WAITS, 0, 1, "case 6: a right IBAN, the pacs.008 waits");
     begin();
     pacs008('1', IBAN "2");
     taken(300001, PACS008, RJCT, 34, 1, "case 6: with another last digit, fails check 34");
@@ -304,10 +327,16 @@ static void case_6(void) {
 static void case_7(void) {
     begin();
     pacs008('1', IBAN "1");
-    taken(300001, PACS008, ACCC, 0, 1, "case 7: a pacs.008");
+    taken(300001, PACS008, WAITS, 0, 1, "case 7: a pacs.008");
     pacs028('2', '1');
-    taken(300001, PACS028, ACCC, 0, 2, "case 7: a pacs.028 tells how it ended");
+    taken(300001, PACS028, PDNG, 10, 2, "case 7: a pacs.028 fails check 10 while it waits");
     same(taken_back(), 0, "case 7: the pacs.028 is taken back");
+    pacs002(300002, '3', '1', "ACCP", "");
+    taken(300002, PACS002, ACCC, 0, 2, "case 7: its answer");
+    pacs028('2', '1');
+    taken(300001, PACS028, ACCC, 0, 3, "case 7: the pacs.028 tells how it ended");
+    same(taken_back(), 0, "case 7: the pacs.028 is taken back");
+    same(taken_back(), 0, "case 7: the answer is taken back");
     same(taken_back(), 0, "case 7: the pacs.008 is taken back");
     taken(300001, PACS028, PDNG, 10, 1, "case 7: the same pacs.028 fails check 10");
 }
@@ -383,6 +412,92 @@ static void case_11(void) {
     taken(300001, CAMT050, ACCC, 0, 24, "case 11: the same submit as step 24");
 }
 
+/* ---- The two stages of a transfer. */
+
+/* A pacs.008 of 50.00 that waits as step 1. */
+static void awaiting(void) {
+    begin();
+    pacs008('1', IBAN "1");
+    taken(300001, PACS008, WAITS, 0, 1, "two stages: a pacs.008 waits");
+    balances(10000, 0, 0, "two stages: nothing has moved");
+}
+
+/* It is settled, the answer is taken back, and it is answered the other way. */
+static void answered_twice(void) {
+    awaiting();
+    pacs002(300002, '2', '1', "ACCP", "");
+    taken(300002, PACS002, ACCC, 0, 2, "two stages: the receiving bank accepts");
+    balances(5000, 5000, 5000, "two stages: 50.00 have moved");
+    pacs002(300002, '3', '1', "RJCT", "");
+    taken(300002, PACS002, RJCT, 35, 3, "two stages: a second answer fails check 35");
+    same(taken_back(), 0, "two stages: it is taken back");
+    same(taken_back(), 0, "two stages: so is the first");
+    balances(10000, 0, 0, "two stages: the money is back");
+    pacs002(300002, '2', '1', "RJCT", "");
+    taken(300002, PACS002, RJCT, 36, 2, "two stages: the receiving bank cannot process it");
+    same(taken_back(), 0, "two stages: that is taken back");
+    pacs002(300002, '2', '1', "RJCT", REFUSED);
+    taken(300002, PACS002, RJCT, 37, 2, "two stages: the receiving bank refuses the credit");
+    pacs028('3', '1');
+    taken(300001, PACS028, RJCT, 37, 3, "two stages: a pacs.028 tells of it");
+    balances(10000, 0, 0, "two stages: nothing has moved");
+}
+
+/* Only the bank that it waits for can answer, and only while it is listed. */
+static void answered_by(void) {
+    static const uint64_t indirect[] = {300001, 1, 0, 0, 300002, 1, 2, 300001};
+    static const uint64_t alone[] = {300002, 1, 0, 0};
+    awaiting();
+    pacs002(300012, '2', '1', "ACCP", "");
+    taken(300012, PACS002, RJCT, 35, 2, "two stages: its branch answers for it, check 35");
+    pacs002(300001, '3', '1', "ACCP", "");
+    taken(300001, PACS002, RJCT, 35, 3, "two stages: the sender answers, check 35");
+    pacs002(300002, '4', '1', "ACCP", "");
+    not_taken(submitted_with(LENT(indirect), 300002, TODAY, sizeof slip), with(12, 2), "two stages: as an indirect branch it is refused by 12");
+    same(submitted_with(LENT(alone), 300002, TODAY, sizeof slip), 0, "two stages: listed alone it is taken");
+    checked(slip_is(PACS002, ACCC, 0, 4), "       its slip, and the bytes after it");
+    balances(5000, 5000, 5000, "two stages: the accounts are those that the pacs.008 was sent with");
+}
+
+/* The money is looked at when the answer comes. */
+static void answered_late(void) {
+    awaiting();
+    same(damvurit_set(LENT(room), LENT(directory), seat, opening, 300001, 2, 0, 0, 5001, NO_LPO), 0, "two stages: LTK 50.01 meanwhile");
+    pacs002(300002, '2', '1', "ACCP", "");
+    taken(300002, PACS002, RJCT, 22, 3, "two stages: 50.00 fail check 22");
+    same(taken_back(), 0, "two stages: the answer is taken back");
+    same(damvurit_set(LENT(room), LENT(directory), seat, opening, 300001, 2, 0, 0, 5000, NO_LPO), 0, "two stages: LTK 50.00");
+    taken(300002, PACS002, ACCC, 0, 4, "two stages: the same answer settles it");
+}
+
+/* What a slip of six bytes says, and its bytes. */
+struct image {
+    uint64_t values[6];
+    uint8_t bytes[DAMVURIT_SLIP_SIZE];
+};
+
+static const struct image images[] = {
+    {{PACS008, WAITS, 0, 0, 1, 1}, {0x38, 0x00, 0x00, 0x02, 0x00, 0x80}},
+    {{PACS002, ACCC, 0, 0, 1, 2}, {0x88, 0x00, 0x00, 0x02, 0x01, 0x00}},
+    {{PACS002, RJCT, 36, 0, 1, 2}, {0x94, 0x80, 0x00, 0x02, 0x01, 0x00}},
+    {{PACS002, RJCT, 35, 0, 1, 2}, {0x94, 0x60, 0x00, 0x02, 0x01, 0x00}},
+    {{PACS002, RJCT, 37, 11, 65535, 24}, {0x94, 0xB7, 0xFF, 0xFE, 0x0C, 0x00}},
+    {{PACS028, PDNG, 10, 0, 1, 2}, {0x61, 0x40, 0x00, 0x02, 0x01, 0x00}},
+    {{PACS028, RJCT, 37, 0, 1, 3}, {0x74, 0xA0, 0x00, 0x02, 0x01, 0x80}},
+};
+
+static void slip_images(void) {
+    for (size_t i = 0; i < COUNT(images); i++) {
+        const uint64_t *v = images[i].values;
+        clear_slip();
+        same(damvurit_write_slip(v[0], v[1], v[2], v[3], v[4], v[5], LENT(slip)), 0, "two stages: a slip, written");
+        checked(slip_has(images[i].bytes), "       its bytes, and those after it");
+        clear_out();
+        same(damvurit_read_slip(LENT(images[i].bytes), out), 0, "       the slip, read");
+        checked(memcmp(out, v, sizeof images[i].values) == 0 && out[6] == UNTOUCHED_NUMBER, "       its six numbers");
+    }
+}
+
 /* ---- Seats 8 to 11, which six bytes alone can name. */
 
 static uint64_t submitted_in(uint64_t at) {
@@ -451,6 +566,29 @@ static void refusal_1(void) {
     not_read(read_with(LENT(directory), seat, opening, 300001, 1), 1, "1: reading");
 }
 
+/* A room whose rows of a transfer and its answer no longer go together. */
+static void unfit_rows(void) {
+    uint64_t *transfer = room + SEAT_NUMBERS * seat + STEPS_FROM, *answer = transfer + STEP_NUMBERS;
+    begin();
+    pacs008('1', IBAN "1");
+    taken(300001, PACS008, WAITS, 0, 1, "1: a pacs.008");
+    pacs002(300002, '2', '1', "ACCP", "");
+    taken(300002, PACS002, ACCC, 0, 2, "1: its answer");
+    checked(transfer[RECEIVER_AT] == 300002 && answer[ANSWERS_AT] == 1, "1: the rows have the receiver and the step that is answered");
+    transfer[RECEIVER_AT] = 999999;
+    keep_room();
+    same(read_with(LENT(directory), seat, opening, 300001, 2), 0, "1: another receiver is not unfit");
+    transfer[RECEIVER_AT] = 1000000;
+    refused(taken_back(), 1, "1: a receiver above 999999");
+    transfer[RECEIVER_AT] = 300002;
+    answer[ANSWERS_AT] = 0;
+    refused(taken_back(), 1, "1: an answer that names no step");
+    answer[ANSWERS_AT] = 2;
+    refused(taken_back(), 1, "1: an answer that names itself");
+    answer[ANSWERS_AT] = 1;
+    same(taken_back(), 0, "1: the room as it was is fit");
+}
+
 static void unfit_directory(const uint64_t *dir, size_t d, const char *what) {
     static const uint64_t none[32];
     keep_room();
@@ -499,7 +637,7 @@ static void refusal_3(void) {
     not_taken(submitted_in(12), 3, "3: submitting in seat 12");
     refused(damvurit_close(LENT(room), 4, 0), 3, "3: closing a closed seat");
     refused(damvurit_take_back(LENT(room), seat, UINT64_MAX), 3, "3: taking back with another opening number");
-    refused(damvurit_set(LENT(room), LENT(directory), UINT64_MAX, opening, 0, 0, 2, 2, 0, 0), 3, "3: setting, with all behind it bad too");
+    refused(damvurit_set(LENT(room), LENT(directory), UINT64_MAX, opening, 0, 0, 2, 2, 0, 0), 3, "3: setting, with all after it bad too");
     not_read(read_with(LENT(directory), 12, opening, 300001, 1), 3, "3: reading in seat 12");
     not_read(read_with(LENT(directory), seat, 0, 300001, 1), 3, "3: reading with opening 0");
 }
@@ -559,7 +697,7 @@ static void refusal_6(void) {
 static void refusals_7_and_8(void) {
     begin();
     write_sheet("<A>x</A>\n");
-    not_taken(submitted(300001, TODAY), with(7, 8), "7: a byte behind the sheet");
+    not_taken(submitted(300001, TODAY), with(7, 8), "7: a byte after the sheet");
     memset(sheet, 'x', 8193);
     sheet_long = 8193;
     not_taken(submitted(300001, TODAY), with(7, 8192), "7: 8,193 bytes");
@@ -569,6 +707,10 @@ static void refusals_7_and_8(void) {
     not_taken(submitted(300001, TODAY), with(8, 4), "8: a camt.050 whose field 4, the amount, is ill-shaped");
     pacs008('1', "UA");
     not_taken(submitted(300001, TODAY), with(8, 14), "8: a pacs.008 whose field 14, the creditor's IBAN, is ill-shaped");
+    pacs002(300002, '1', '1', "ACCC", "");
+    not_taken(submitted(300002, TODAY), with(8, 4), "8: a pacs.002 whose field 4, GrpSts, is ill-shaped");
+    pacs002(300002, '1', '1', "ACCP", REFUSED);
+    not_taken(submitted(300002, TODAY), with(8, 5), "8: a pacs.002 with field 5, TxSts, though GrpSts is ACCP");
 }
 
 static void refusals_9_and_10(void) {
@@ -610,7 +752,15 @@ static void no_slip_submitted(void) {
 static void no_slip_written(void) {
     not_written(CAMT050, ACCC, 0, 3, 1, 1, 4, "11: writing into four bytes");
     not_written(CAMT050, ACCC, 0, 3, 1, 1, 5, "11: writing into five bytes");
-    not_written(4, ACCC, 0, 3, 1, 1, sizeof slip, "11: writing kind 4");
+    not_written(0, ACCC, 0, 3, 1, 1, sizeof slip, "11: writing kind 0");
+    not_written(5, ACCC, 0, 3, 1, 1, sizeof slip, "11: writing kind 5");
+    not_written(PACS002, PDNG, 3, 3, 1, 1, sizeof slip, "11: writing pacs.002 with PDNG");
+    not_written(PACS002, RJCT, 8, 3, 1, 1, sizeof slip, "11: writing pacs.002 with check 8");
+    not_written(PACS002, RJCT, 38, 3, 1, 1, sizeof slip, "11: writing check 38");
+    not_written(PACS008, RJCT, 36, 3, 1, 1, sizeof slip, "11: writing pacs.008 with check 36");
+    not_written(PACS008, WAITS, 22, 3, 1, 1, sizeof slip, "11: writing a pacs.008 that waits, with check 22");
+    not_written(PACS028, RJCT, 35, 3, 1, 1, sizeof slip, "11: writing pacs.028 with check 35");
+    not_written(CAMT050, WAITS, 0, 3, 1, 1, sizeof slip, "11: writing a camt.050 that waits");
     not_written(CAMT050, PDNG, 0, 3, 1, 1, sizeof slip, "11: writing camt.050 with PDNG");
     not_written(CAMT050, RJCT, 25, 3, 1, 1, sizeof slip, "11: writing camt.050 with check 25");
     for (uint64_t at = 12; at <= 16; at++) not_written(CAMT050, ACCC, 0, at, 1, 1, sizeof slip, "11: writing a seat from 12 on");
@@ -639,6 +789,8 @@ static void no_slip_of_a_seat(uint64_t at) {
 static void no_slip_read(void) {
     static const uint8_t check_1[DAMVURIT_SLIP_SIZE] = {0x50, 0x26, 0x00, 0x02, 0x00, 0x80}; /* camt.050, RJCT with check 1 */
     static const uint8_t five_with_check_1[DAMVURIT_FIVE_BYTE_SLIP_SIZE] = {0x50, 0x2C, 0x00, 0x04, 0x01};
+    static const uint8_t five_that_wait[DAMVURIT_FIVE_BYTE_SLIP_SIZE] = {0x38, 0x00, 0x00, 0x04, 0x01}; /* pacs.008, status 3 */
+    static const uint8_t five_of_kind_4[DAMVURIT_FIVE_BYTE_SLIP_SIZE] = {0x88, 0x00, 0x00, 0x04, 0x02}; /* pacs.002, ACCC */
     static const uint8_t seven[] = {0x48, 0x06, 0x00, 0x02, 0x00, 0x80, 0x00};
     not_slip(NULL, 0, "11: reading nothing");
     not_slip(slip_of_case_8, 4, "11: reading four bytes");
@@ -646,6 +798,8 @@ static void no_slip_read(void) {
     not_slip(LENT(seven), "11: reading seven bytes");
     not_slip(LENT(check_1), "11: reading a slip with check 1");
     not_slip(LENT(five_with_check_1), "11: reading a slip of five bytes with check 1");
+    not_slip(LENT(five_that_wait), "11: reading a slip of five bytes that waits");
+    not_slip(LENT(five_of_kind_4), "11: reading a slip of five bytes of a pacs.002");
     for (uint64_t at = 12; at <= 15; at++) no_slip_of_a_seat(at);
     no_slip_with_a_bit();
 }
@@ -686,9 +840,14 @@ int main(void) {
     case_9();
     case_10();
     case_11();
+    answered_twice();
+    answered_by();
+    answered_late();
+    slip_images();
     high_seats();
     eight_seats();
     refusal_1();
+    unfit_rows();
     refusal_2();
     refusal_3();
     refusals_4_and_5();

@@ -13,16 +13,16 @@ use Rattle.remainder.specs.Remainder.{isPlain, whole, remainderOf, written}
 use Rattle.table.specs.Checks.{orderOf}
 use Rattle.slip.specs.Answers.{writeAfter, canWrite, holdsSlip}
 use Rattle.slip.specs.Image.{slipOf as slipSlipOf, slipNumber, image}
-use Rattle.slip.specs.Meaning.{sayings, isSlip, kindNumber, statusNumber}
+use Rattle.slip.specs.Meaning.{eitherSays, sixAloneSays, sayings, isSlip, kindNumber, statusNumber}
 use Rattle.sheet.specs.Answer.{run, readingOf}
 use Rattle.sheet.specs.Grammar.{isNameByte}
 use Rattle.sheet.specs.Machine.{step}
 use Rattle.outline.specs.Paths.{samePath, charactersOf, standing, atDepth, sameName}
 use Rattle.outline.specs.Rows.{insideAt, rowsFrom, hasCcy, rowsOf as outlineRowsOf, textAt, ccyAt, nameEnd, nameAt, hasText}
-use Rattle.message.specs.Fields.{camt050Fields, pacs008Fields, pacs028Fields, fieldsOf as messageFieldsOf, numbersOf, bodyOf}
-use Rattle.message.specs.Held.{heldIn, kindNamed, kindOf, onlyKind, heldOf}
+use Rattle.message.specs.Fields.{camt050Fields, pacs008Fields, pacs028Fields, pacs002Fields, fieldsOf as messageFieldsOf, numbersOf, bodyOf}
+use Rattle.message.specs.Held.{heldIn, stands, kindNamed, kindOf, onlyKind, heldOf}
 use Rattle.message.specs.Good.{ccyFits, textFits, goesWith, firstBad, hasShape, isGood}
-use Rattle.message.specs.Message.{ccyIn, agentOf, messageFrom, startIn, lengthIn, nameOf, textIn, messageOf}
+use Rattle.message.specs.Message.{ccyIn, agentOf, replyOf, messageFrom, startIn, lengthIn, nameOf, textIn, messageOf}
 use Rattle.message.specs.Received.{receivedFrom, receivedIn, receivedAs, receivedOf}
 use Rattle.directory.specs.Directory.{foundFrom, isFit, ownerUsed, found}
 use Rattle.layout.specs.Parts.{put, part}
@@ -30,13 +30,15 @@ use Rattle.layout.specs.Rows.{accountRow, headRow, stepRow, stepIn, accountIn, 
 use Rattle.layout.specs.Seat.{headOf, withStep, seatOf, accountOf as layoutAccountOf, withSeat, stepOf, withAccount, withHead}
 use Rattle.seat.specs.Calls.{noTicket, accountFound, sumsGood, pairGood, limitNumber, settingsOf, accountNamed}
 use Rattle.seat.specs.Fit.{seatFits, closedFits, closedSeat, openFits, openSeat, sumsOf, openAccounts, roomFits, sumsFrom, same}
-use Rattle.journal.specs.Traces.{earliest, leaves, firstIn, isThere, isKnown}
-use Rattle.journal.specs.Results.{failsBy, endsAs, resultFits, resultNow}
+use Rattle.journal.specs.Traces.{earliest, waitsAs, leaves, firstIn, isThere, isKnown}
+use Rattle.journal.specs.Results.{failsBy, endsAs, sentAs, toldAs, resultFits}
+use Rattle.journal.specs.Answers.{answerFrom, answerTo, isAnswered, waits, resultIn, resultNow, sameMovement, answerable}
 use Rattle.journal.specs.Limits.{availableBelow, turnoverAbove, blockedOut, blockedInto, turnoverShut}
-use Rattle.journal.specs.Steps.{stepFits, noSet, movementFits, noMovement, moves, sameSettings, isStored}
-use Rattle.journal.specs.Steps.{settingsFit, between, referenceFits, noMessage, messageFits, setFits, isStoredUetr}
+use Rattle.journal.specs.Steps.{stepFits, noSet, movementFits, noMovement, moves, isWaiting, closes, sameSettings, isStored, noUetr, uetrFits}
+use Rattle.journal.specs.Steps.{settingsFit, between, isMovement, referenceFits, receiverFits, answersFits, noMessage, messageFits, setFits, isStoredUetr}
 use Rattle.journal.specs.Working.{uneffect, stepped, worked, moved, possible, changed, covered, journalOf, effect, backed, unmoved, stepsFrom}
 use Rattle.judge.specs.Case.{movementOf, accountOn, creditOwner, debitOwner, caseOf}
+use Rattle.judge.specs.Rows.{dueTo, accepts, keptIn, movementFor, nothingDue, declines, transferDeclined, refuses, creditRefused}
 use Rattle.judge.specs.Rows.{movementIn, isAsp, identifierRepeated, creditorNotInstant, creditorNotServed, debtorElsewhere, creditorElsewhere}
 use Rattle.judge.specs.Rows.{instructingNotServing, debtorNotHryvnia, identifierBad, debtorAnothers, shows, creditBlocked, ibanWrong}
 use Rattle.judge.specs.Rows.{accountAt, creditorNotHryvnia, debtorUnlisted, moneyShort, createdElsewhen, senderNotInstant, previousNotServing}
@@ -45,7 +47,7 @@ use Rattle.judge.specs.Rows.{debitBlocked, senderNoOwner, currenciesDiffer, isS
 use Rattle.judge.specs.Rows.{originalBad, senderUnlisted, digitsWrong, limitPassed, isOne, createdOn, differs}
 use Rattle.judge.specs.Values.{orZero, agree}
 use Rattle.judge.specs.Verdict.{toldOf, fails, stepMade, judgedStep, verdict, firstFailing}
-use Rattle.judge.specs.Verdict.{rowsOf as judgeRowsOf, carried, outcome, answered, endOf, transferred}
+use Rattle.judge.specs.Verdict.{rowsOf as judgeRowsOf, carried, awaits, outcome, answered, endOf, transferred, sent, stepNumber, closedBy, stepBy}
 use Rattle.centre.specs.Answers.{slipValues, isDone, behind}
 use Rattle.centre.specs.Calls.{backTold, closeTold, setIn, ticketBad, openAfter, readTold as centreReadTold}
 use Rattle.centre.specs.Calls.{openTold, setAfter, backAfter, noSeat, setTold, closeAfter}
@@ -71,7 +73,8 @@ unfolding orderOf
 table-opened = tt
 
 unfoldable pub slip-opened : Unit {0}
-unfolding writeAfter canWrite holdsSlip slipSlipOf slipNumber image sayings isSlip kindNumber statusNumber
+unfolding writeAfter canWrite holdsSlip slipSlipOf slipNumber image eitherSays sixAloneSays sayings isSlip kindNumber
+    statusNumber
 slip-opened = tt
 
 unfoldable pub sheet-opened : Unit {0}
@@ -83,8 +86,9 @@ unfolding samePath charactersOf standing atDepth sameName insideAt rowsFrom hasC
 outline-opened = tt
 
 unfoldable pub message-opened : Unit {0}
-unfolding camt050Fields pacs008Fields pacs028Fields messageFieldsOf numbersOf bodyOf ccyFits textFits goesWith firstBad hasShape isGood heldIn ccyIn
-    agentOf messageFrom startIn lengthIn nameOf textIn messageOf receivedFrom kindNamed receivedIn receivedAs kindOf onlyKind receivedOf heldOf
+unfolding camt050Fields pacs008Fields pacs028Fields pacs002Fields messageFieldsOf numbersOf bodyOf ccyFits textFits goesWith firstBad hasShape isGood heldIn
+    stands
+    ccyIn replyOf agentOf messageFrom startIn lengthIn nameOf textIn messageOf receivedFrom kindNamed receivedIn receivedAs kindOf onlyKind receivedOf heldOf
 message-opened = tt
 
 unfoldable pub directory-opened : Unit {0}
@@ -97,18 +101,22 @@ layout-opened = tt
 
 unfoldable pub seat-opened : Unit {0}
 unfolding noTicket accountFound sumsGood pairGood limitNumber settingsOf accountNamed seatFits closedFits closedSeat openFits openSeat sumsOf
-    openAccounts roomFits sumsFrom same earliest leaves firstIn isThere isKnown failsBy endsAs resultFits resultNow availableBelow turnoverAbove
-    blockedOut blockedInto turnoverShut stepFits noSet movementFits noMovement moves sameSettings isStored settingsFit between referenceFits
+    openAccounts roomFits sumsFrom same earliest waitsAs leaves firstIn isThere isKnown failsBy endsAs sentAs toldAs resultFits
+    answerFrom answerTo isAnswered waits resultIn resultNow sameMovement answerable availableBelow turnoverAbove
+    blockedOut blockedInto turnoverShut stepFits noSet movementFits noMovement moves isWaiting closes sameSettings isStored noUetr uetrFits
+    settingsFit between isMovement referenceFits receiverFits answersFits
     noMessage messageFits setFits isStoredUetr uneffect stepped worked moved possible changed covered journalOf effect backed unmoved stepsFrom
 seat-opened = tt
 
 unfoldable pub judge-opened : Unit {0}
-unfolding movementIn movementOf accountOn creditOwner debitOwner caseOf isAsp identifierRepeated creditorNotInstant creditorNotServed
+unfolding dueTo accepts keptIn movementFor nothingDue declines transferDeclined refuses creditRefused
+    movementIn movementOf accountOn creditOwner debitOwner caseOf isAsp identifierRepeated creditorNotInstant creditorNotServed
     debtorElsewhere creditorElsewhere instructingNotServing debtorNotHryvnia identifierBad debtorAnothers shows creditBlocked ibanWrong
     accountAt creditorNotHryvnia debtorUnlisted moneyShort createdElsewhen senderNotInstant previousNotServing originalDiffers
     instructedNoBank creditorNoProvider uetrRepeated askedAfter amountForeign originalUnknown debitBlocked senderNoOwner currenciesDiffer
     isSep notFromSender limitZero senderIndirect creditorAnothers originalBad senderUnlisted digitsWrong limitPassed isOne createdOn
-    differs orZero agree toldOf fails stepMade judgedStep verdict firstFailing judgeRowsOf carried outcome answered endOf transferred
+    differs orZero agree toldOf fails stepMade judgedStep verdict firstFailing judgeRowsOf carried awaits outcome answered
+    endOf transferred sent stepNumber closedBy stepBy
 judge-opened = tt
 
 unfoldable pub centre-opened : Unit {0}

@@ -10,10 +10,10 @@ use Prim.Native.String.{String}
 use lib.ListN.{replicate}
 use Rattle.shape.specs.Text.{bytes}
 use Rattle.table.specs.declared.Kind.{Kind}
-use Rattle.table.specs.declared.Kind.the-variants.{Pacs008, Camt050, Pacs028}
+use Rattle.table.specs.declared.Kind.the-variants.{Pacs008, Camt050, Pacs028, Pacs002}
 use Rattle.slip.specs.declared.Slip.{Slip}
 use Rattle.slip.specs.declared.Status.{Status}
-use Rattle.slip.specs.declared.Status.the-variants.{Pdng, Accc, Rjct}
+use Rattle.slip.specs.declared.Status.the-variants.{Pdng, Accc, Rjct, Waits}
 use Rattle.slip.specs.Meaning.{slipLong, kindNumber, statusNumber}
 use Rattle.slip.specs.Image.{image}
 use Rattle.directory.specs.declared.Participant.{Participant}
@@ -26,7 +26,7 @@ use Rattle.centre.specs.declared.Ticket.{Ticket}
 use Rattle.centre.specs.Answers.{Told, done, refused, refusedWith}
 use Rattle.demands.specs.Calls.{close, set, submit, takeBack, read, Call, opening, under, writing, reading, newRoom}
 use Rattle.demands.specs.Seats.{Answer, centre}
-use Rattle.cases.specs.Sheets.{camt050, pacs008, pacs028}
+use Rattle.cases.specs.Sheets.{camt050, pacs008, pacs028, pacs002}
 
 -- two owners, an indirect branch of the first and a direct branch of the second, all instant
 abbrev pub directory : List Participant
@@ -162,24 +162,41 @@ case5 =
     ∷ fromStart (from 300001 (camt050 "300001" "1" "2024-02-28T23:59:59" "1.00") gives rejected 7 1 ∷ [])
     ∷ []
 
--- 6. A right IBAN, and the same with another last digit
+-- 300001 pays a customer of 300002 as message 1; 300002 accepts it as message 2 of its own
+abbrev pub pays : Call
+pays = from 300001 (pacs008 "1" morning "UA213223130000026007233566001")
+
+abbrev pub accepts : Call
+accepts = from 300002 (pacs002 "300002" "2" morning "1" "ACCP" "")
+
+-- 300001 asks after it
+abbrev pub asks : Call
+asks = from 300001 (pacs028 "3" morning "1")
+
+-- 6. A right IBAN, and the same with another last digit: the first waits for its answer
 abbrev pub case6 : List Case
 case6 =
-    fromStart (from 300001 (pacs008 "1" morning "UA213223130000026007233566001") gives slipped Pacs008 Accc 0 1 ∷ [])
+    fromStart (pays gives slipped Pacs008 Waits 0 1 ∷ [])
     ∷ fromStart (from 300001 (pacs008 "1" morning "UA213223130000026007233566002") gives slipped Pacs008 Rjct 34 1 ∷ [])
     ∷ []
 
--- 7. Once a pacs.008 was taken back, no step has the identifier that a pacs.028 asks after. Before that, the same pacs.028 tells how it ended
+-- 7. Once a pacs.008 was taken back, no step has the identifier that a pacs.028 asks after. The same after it was answered, told of as settled, and
+-- the question, the answer and the payment were taken back
 abbrev pub case7 : List Case
 case7 =
     fromStart (
-    from 300001 (pacs008 "1" morning "UA213223130000026007233566001") gives slipped Pacs008 Accc 0 1
-    ∷ from 300001 (pacs028 "2" morning "1") gives slipped Pacs028 Accc 0 2
+    pays gives slipped Pacs008 Waits 0 1
+    ∷ under ticket takeBack gives values []
+    ∷ asks gives slipped Pacs028 Pdng 10 1
     ∷ [])
     ∷ fromStart (
-    from 300001 (pacs008 "1" morning "UA213223130000026007233566001") gives slipped Pacs008 Accc 0 1
+    pays gives slipped Pacs008 Waits 0 1
+    ∷ accepts gives slipped Pacs002 Accc 0 2
+    ∷ asks gives slipped Pacs028 Accc 0 3
     ∷ under ticket takeBack gives values []
-    ∷ from 300001 (pacs028 "2" morning "1") gives slipped Pacs028 Pdng 10 1
+    ∷ under ticket takeBack gives values []
+    ∷ under ticket takeBack gives values []
+    ∷ asks gives slipped Pacs028 Pdng 10 1
     ∷ [])
     ∷ []
 

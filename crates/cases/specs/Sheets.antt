@@ -1,5 +1,6 @@
--- The sheets of the cases, written out as bytes: one of each kind of message, with every field of document 01, "Fields", in its order. What
--- differs between the cases is put in where it stands: the sender's code, a digit that tells two messages apart, a time, an amount, an IBAN.
+-- The sheets of the cases, written out as bytes: one of each kind of message, with every field of document 01, "Fields", and of request 9 of
+-- document 02, in its order. What differs between the cases is put in where it stands: codes, a digit that tells two messages apart, a time, an
+-- amount, an IBAN.
 use mathlib.Core.List.{List, _++_}
 use Prim.Native.Nat.{ℕ}
 use Prim.Native.String.{String}
@@ -29,21 +30,26 @@ camt050 sender digit created amount =
     ++ bytes "<CdtrAcct><Id><Othr><Id>2" ++ bytes sender ++ bytes "UAH</Id></Othr></Id></CdtrAcct>"
     ++ bytes "</LqdyTrfId></LqdyCdtTrf></LqdyCdtTrf></Document>"
 
--- pacs.008: 50.00 from a customer of 300001 to the IBAN of a customer of 300002
-abbrev pub pacs008 : String → String → String → List ℕ
-pacs008 digit created iban =
+-- pacs.008: 50.00 from a customer of 300001 to the IBAN of a customer of a receiving bank
+abbrev pub payment : String → String → String → String → List ℕ
+payment receiver digit created iban =
     bytes "<Document><FIToFICstmrCdtTrf>"
     ++ bytes "<GrpHdr><MsgId>" ++ identifier "300001" digit ++ bytes "</MsgId><CreDtTm>" ++ bytes created ++ bytes "</CreDtTm>"
     ++ bytes "<InstgAgt><FinInstnId><ClrSysMmbId><MmbId>300001</MmbId></ClrSysMmbId></FinInstnId></InstgAgt>"
-    ++ bytes "<InstdAgt><FinInstnId><ClrSysMmbId><MmbId>300002</MmbId></ClrSysMmbId></FinInstnId></InstdAgt></GrpHdr>"
+    ++ bytes "<InstdAgt><FinInstnId><ClrSysMmbId><MmbId>" ++ bytes receiver ++ bytes "</MmbId></ClrSysMmbId></FinInstnId></InstdAgt></GrpHdr>"
     ++ bytes "<CdtTrfTxInf><PmtId><EndToEndId>" ++ reference ++ bytes "</EndToEndId><UETR>" ++ uetr digit ++ bytes "</UETR></PmtId>"
     ++ bytes "<IntrBkSttlmAmt Ccy=\"UAH\">50.00</IntrBkSttlmAmt>"
     ++ bytes "<PrvsInstgAgt1><FinInstnId><ClrSysMmbId><MmbId>300011</MmbId></ClrSysMmbId></FinInstnId></PrvsInstgAgt1>"
     ++ bytes "<DbtrAgt><FinInstnId><ClrSysMmbId><ClrSysId><Prtry>SEP</Prtry></ClrSysId><MmbId>300001</MmbId></ClrSysMmbId></FinInstnId></DbtrAgt>"
     ++ bytes "<DbtrAcct><Id><IBAN>UA213223130000026007233566001</IBAN></Id></DbtrAcct>"
-    ++ bytes "<CdtrAgt><FinInstnId><ClrSysMmbId><ClrSysId><Prtry>SEP</Prtry></ClrSysId><MmbId>300002</MmbId></ClrSysMmbId></FinInstnId></CdtrAgt>"
+    ++ bytes "<CdtrAgt><FinInstnId><ClrSysMmbId><ClrSysId><Prtry>SEP</Prtry></ClrSysId><MmbId>" ++ bytes receiver
+    ++ bytes "</MmbId></ClrSysMmbId></FinInstnId></CdtrAgt>"
     ++ bytes "<CdtrAcct><Id><IBAN>" ++ bytes iban ++ bytes "</IBAN></Id></CdtrAcct>"
     ++ bytes "</CdtTrfTxInf></FIToFICstmrCdtTrf></Document>"
+
+-- to a customer of 300002
+abbrev pub pacs008 : String → String → String → List ℕ
+pacs008 = payment "300002"
 
 -- pacs.028: what became of the pacs.008 with another digit, which was created at this time
 abbrev pub pacs028 : String → String → String → List ℕ
@@ -55,3 +61,16 @@ pacs028 digit created original =
     ++ bytes "<OrgnlMsgNmId>pacs.008.001.08</OrgnlMsgNmId><OrgnlCreDtTm>" ++ bytes created ++ bytes "</OrgnlCreDtTm></OrgnlGrpInf>"
     ++ bytes "<OrgnlUETR>" ++ uetr original ++ bytes "</OrgnlUETR><OrgnlEndToEndId>" ++ reference ++ bytes "</OrgnlEndToEndId>"
     ++ bytes "</TxInf></FIToFIPmtStsReq></Document>"
+
+-- pacs.002: what a bank answers to the pacs.008 of 300001 with another digit: GrpSts, and what stands after it
+abbrev pub pacs002 : String → String → String → String → String → String → List ℕ
+pacs002 sender digit created original group later =
+    bytes "<Document><FIToFIPmtStsRpt>"
+    ++ bytes "<GrpHdr><MsgId>" ++ identifier sender digit ++ bytes "</MsgId><CreDtTm>" ++ bytes created ++ bytes "</CreDtTm></GrpHdr>"
+    ++ bytes "<OrgnlGrpInfAndSts><OrgnlMsgId>" ++ identifier "300001" original ++ bytes "</OrgnlMsgId>"
+    ++ bytes "<GrpSts>" ++ bytes group ++ bytes "</GrpSts></OrgnlGrpInfAndSts>"
+    ++ bytes later ++ bytes "</FIToFIPmtStsRpt></Document>"
+
+-- TxSts
+abbrev pub refusing : String
+refusing = "<TxInfAndSts><TxSts>RJCT</TxSts></TxInfAndSts>"

@@ -10,7 +10,7 @@ use native.Mathlib.Numerals.{add-one}
 use lib.Dec.{eqb}
 use lib.ListN.{length, drop}
 use borrow.Author.Tests.{le-leb, le-ltb, eq-eqb}
-use Rattle.shape.proofs.Tests.{and-left, or-left, or-right}
+use Rattle.shape.proofs.Tests.{or-left, or-right}
 use Rattle.slip.specs.declared.Slip.{Slip}
 use Rattle.slip.specs.Meaning.{seats, openings, steps, slipLong, says, isSlip}
 use Rattle.slip.specs.Image.{image}
@@ -18,10 +18,9 @@ use Rattle.slip.specs.Answers.{canWrite, writeAfter}
 use Rattle.layout.specs.declared.rows.Head.{Head}
 use Rattle.layout.specs.declared.rows.Step.{Step}
 use Rattle.layout.specs.Seat.{seatLong, headOf}
-use Rattle.journal.specs.declared.results.Outcome.{Outcome}
 use Rattle.journal.specs.Low.{Low}
 use Rattle.journal.specs.Steps.{stepFits}
-use Rattle.journal.specs.Working.{covered, possible, stepped}
+use Rattle.journal.specs.Working.{possible, stepped}
 use Rattle.journal.proofs.Backed.{possible-fits}
 use Rattle.seat.specs.Fit.{openFits, seatFits}
 use Rattle.seat.specs.Calls.{noTicket}
@@ -29,10 +28,8 @@ use Rattle.seat.proofs.Forward.{open-fits, fit-low}
 use Rattle.seat.proofs.Kept.{fit-long, fit-open}
 use Rattle.seat.proofs.Answered.{ticket-good}
 use Rattle.judge.specs.declared.case.Case.{Case}
-use Rattle.judge.specs.declared.case.Movement.{Movement}
 use Rattle.judge.specs.Case.{Arises}
-use Rattle.judge.specs.Rows.{askedAfter, movementIn}
-use Rattle.judge.specs.Verdict.{verdict, toldOf, endOf, outcome, stepMade, judgedStep}
+use Rattle.judge.specs.Verdict.{verdict, stepBy, judgedStep}
 use Rattle.judge.proofs.Possible.{judged-says, judged-possible}
 use Rattle.centre.specs.declared.Ticket.{Ticket}
 use Rattle.centre.specs.declared.Answer.the-variants.{Done, NotTaken}
@@ -135,21 +132,16 @@ unfolding slipOf
 step-slip ticket number x slip room saying seat least most first last =
     slip-good (slipOf ticket number x) slip room saying seat least most first last
 
--- taken: the step is the one of the outcome
+-- taken: the step is the one of the check
 module _ (ticket : Ticket) (c : Case) (s slip : List ℕ) (check : ℕ) (v : check ≡ verdict c s) (n : (eqb check 1 || eqb check 2) ≡ false)
-    (m : Movement) (moving : m ≡ movementIn c s) (o : Outcome) (ends : o ≡ endOf (c .message .kind) check (toldOf (askedAfter c s) s))
-    (x : Step) (makes : x ≡ stepMade c m o) (h : Head) (heads : h ≡ headOf s) where
+    (x : Step) (makes : x ≡ stepBy c s check) (h : Head) (heads : h ≡ headOf s) where
   passes : notTaken (verdict c s) ≡ false
   unfolding notTaken
   passes = subst (λ (k : ℕ). notTaken k ≡ false) v n
 
-  ending : o ≡ outcome c s
-  unfolding outcome
-  ending = ends ∙ ap (λ (k : ℕ). endOf (c .message .kind) k (toldOf (askedAfter c s) s)) v
-
   making : x ≡ judgedStep c s
   unfolding judgedStep
-  making = makes ∙ ap (λ (move : Movement). stepMade c move o) moving ∙ ap (stepMade c (movementIn c s)) ending
+  making = makes ∙ ap (stepBy c s) v
 
   counting : h .steps + 1 ≡ suc (headOf s .steps)
   counting = add-one (h .steps) ∙ ap (λ (k : Head). suc (k .steps)) heads

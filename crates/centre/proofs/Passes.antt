@@ -16,7 +16,7 @@ use Rattle.layout.specs.declared.rows.Head.{Head}
 use Rattle.layout.specs.declared.rows.Step.{Step}
 use Rattle.layout.specs.Parts.{part, put}
 use Rattle.layout.specs.Rows.{headRow, headIn}
-use Rattle.layout.specs.Seat.{roomLong, headOf, withHead, withStep, seatOf, withSeat}
+use Rattle.layout.specs.Seat.{seatLong, roomLong, headOf, withHead, withStep, seatOf, withSeat}
 use Rattle.journal.specs.Working.{effect, counting, stepped}
 use Rattle.seat.specs.Fit.{roomFits}
 use Rattle.seat.proofs.Rooms.{room-long}
@@ -53,8 +53,9 @@ pub put-head : (room : List ℕ) (k : ℕ) (h : Head) (rest : List ℕ) → leng
     → headOf (seatOf (withSeat room k (headRow h ++ rest)) k) ≡ h
 unfolding headOf seatOf withSeat part put headIn headRow
 put-head room k h rest l b =
-    ap (λ (t : List ℕ). headIn (take 3 (take 923 t)))
-    (drop-at (take (923 * k) room) ((headRow h ++ rest) ++ drop 923 (drop (923 * k) room)) (923 * k) (length-take-le (923 * k) room (omega arith)))
+    ap (λ (t : List ℕ). headIn (take 3 (take seatLong t)))
+    (drop-at (take (seatLong * k) room) ((headRow h ++ rest) ++ drop seatLong (drop (seatLong * k) room)) (seatLong * k)
+    (length-take-le (seatLong * k) room (omega arith)))
 
 -- so a room with a seat that begins with another head is another room
 pub other-room : (room : List ℕ) (k : ℕ) (h : Head) (rest : List ℕ) → roomFits room ≡ true → k < seats → room ≡ withSeat room k (headRow h ++ rest)

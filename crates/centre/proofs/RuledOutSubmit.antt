@@ -15,7 +15,7 @@ use Rattle.shape.specs.Dates.{isDate}
 use Rattle.shape.proofs.Tests.{and-left}
 use Rattle.slip.specs.declared.Slip.{Slip}
 use Rattle.table.specs.declared.Kind.{Kind}
-use Rattle.table.specs.declared.Kind.the-variants.{Pacs008, Camt050, Pacs028}
+use Rattle.table.specs.declared.Kind.the-variants.{Pacs008, Camt050, Pacs028, Pacs002}
 use Rattle.slip.specs.declared.Status.the-variants.{Rjct}
 use Rattle.slip.specs.Meaning.{slipLong, steps, sixBytes, isSlip, statusNumber}
 use Rattle.slip.specs.Image.{Fits, image, slipOf as slipRead}
@@ -42,9 +42,8 @@ use Rattle.seat.proofs.Kept.{fit-long, fit-open}
 use Rattle.seat.proofs.Rooms.{room-long}
 use Rattle.judge.specs.declared.case.Case.{Case}
 use Rattle.judge.specs.Case.{Arises, caseOf}
-use Rattle.judge.specs.declared.case.Movement.{Movement}
-use Rattle.judge.specs.Rows.{askedAfter, movementIn}
-use Rattle.judge.specs.Verdict.{verdict, transferred, toldOf, endOf, outcome, stepMade, judgedStep}
+use Rattle.judge.specs.Rows.{askedAfter}
+use Rattle.judge.specs.Verdict.{verdict, transferred, sent, toldOf, endOf, outcome, stepMade, stepBy, judgedStep}
 use Rattle.judge.proofs.Possible.{judged-possible}
 use Rattle.centre.specs.declared.Answer.the-variants.{Done, NotTaken}
 use Rattle.centre.specs.declared.Ticket.{Ticket}
@@ -85,11 +84,12 @@ good-message (BadField number) p q f = false≢true (sym q)
 good-message (Good m) p q f = f m refl
 
 -- a transfer that passes every check does not end as RJCT
-passed-end : (kind : Kind) (told : Outcome) → (kind ≡ Pacs028 → ⊥) → endOf kind 0 told .status ≡ statusNumber Rjct → ⊥
-unfolding endOf transferred statusNumber
-passed-end Pacs008 told transfers e = omega (arith, e)
-passed-end Camt050 told transfers e = omega (arith, e)
-passed-end Pacs028 told transfers e = transfers refl
+passed-end : (kind : Kind) (tells : Outcome) → (kind ≡ Pacs028 → ⊥) → endOf kind 0 tells .status ≡ statusNumber Rjct → ⊥
+unfolding endOf transferred sent statusNumber
+passed-end Pacs008 tells transfers e = omega (arith, e)
+passed-end Camt050 tells transfers e = omega (arith, e)
+passed-end Pacs028 tells transfers e = transfers refl
+passed-end Pacs002 tells transfers e = omega (arith, e)
 
 accepted-only : (c : Case) (s : List ℕ) → verdict c s ≡ 0 → (c .message .kind ≡ Pacs028 → ⊥) → outcome c s .status ≡ statusNumber Rjct → ⊥
 unfolding outcome
@@ -195,14 +195,12 @@ module _ (dir : List Participant) (ticket : Ticket) (sender today : ℕ) (sheet 
       }
 
       can-write : canWrite (slipOf ticket (headOf seatHere .steps + 1) (judgedStep caseHere seatHere)) slip ≡ true
-      unfolding outcome judgedStep
+      unfolding judgedStep
       can-write =
           let c : Case = caseHere in
           let s : List ℕ = seatHere in
           let can = can-judge all-right (caseOf dir sender today) answerHere m f arises c refl s refl in
-          let m : Movement = movementIn c s in
-          let o : Outcome = endOf (c .message .kind) (verdict c s) (toldOf (askedAfter c s) s) in
-          slip-asks ticket c s slip (verdict c s) refl not-refused m refl o refl (stepMade c m o) refl (headOf s) refl
+          slip-asks ticket c s slip (verdict c s) refl not-refused (stepBy c s (verdict c s)) refl (headOf s) refl
           (can .0) (can .1) (can .3) (can .5) (can .2) (can .4)
 
       right-slip : isSlip (slipOf ticket (suc (headOf seatHere .steps)) (stepOn (caseOf dir sender today) answerHere seatHere)) ≡ true
@@ -214,7 +212,7 @@ module _ (dir : List Participant) (ticket : Ticket) (sender today : ℕ) (sheet 
       -- the step that is stored is that of the outcome
       step-stored : stepOf (seatOf (submitAfter dir ticket sender today sheet slip room) (ticket .seat)) (headOf seatHere .steps) .status
           ≡ outcome caseHere seatHere .status
-      unfolding stepOn judgedStep stepMade notTaken
+      unfolding stepOn judgedStep stepBy stepMade outcome notTaken
       step-stored =
           let x : Step = judgedStep caseHere seatHere in
           let can = can-judge all-right (caseOf dir sender today) answerHere m f arises caseHere refl seatHere refl in

@@ -9,11 +9,9 @@ use judge::Case;
 use judge::Looked;
 use judge::asked_in;
 use judge::case_from;
-use judge::end_of;
 use judge::first_failing;
 use judge::look_among;
-use judge::movement_in;
-use judge::step_of;
+use judge::step_by;
 use layout::SEAT_LONG;
 use layout::head;
 use layout::rows::Step;
@@ -95,7 +93,7 @@ fn judge_in(s: &mut [u64], ticket: Ticket, c: Case, slip: &mut [u8]) -> Answer
     if (check == 1) | (check == 2) {
         return Answer::NotTaken(check);
     }
-    let x = step_of(c, movement_in(c, s), end_of(c, s, check));
+    let x = step_by(c, s, check);
     let h = head(s);
     append(s, x);
     put_slip(ticket, h.steps + 1, x, slip);

@@ -9,16 +9,16 @@ use native.Mathlib.Omega.{arith}
 use borrow.Author.Tests.{ne-eqb}
 use Rattle.shape.specs.Bytes.{every}
 use Rattle.table.specs.declared.Kind.{Kind}
-use Rattle.table.specs.declared.Kind.the-variants.{Pacs008, Camt050, Pacs028}
+use Rattle.table.specs.declared.Kind.the-variants.{Pacs008, Camt050, Pacs028, Pacs002}
 use Rattle.table.specs.Checks.{orderOf}
 use Rattle.slip.specs.Meaning.{statusNumber}
 use Rattle.judge.specs.declared.case.Case.{Case}
 use Rattle.journal.specs.declared.results.Outcome.{Outcome}
 use Rattle.judge.specs.Rows.{askedAfter}
-use Rattle.judge.specs.Verdict.{fails, rowsOf, firstFailing, verdict, transferred, toldOf, answered, endOf, outcome, carried}
+use Rattle.judge.specs.Verdict.{fails, rowsOf, firstFailing, verdict, transferred, sent, toldOf, answered, endOf, outcome, carried, awaits}
 use Rattle.centre.specs.Submit.{notTaken}
 use Rattle.demands.specs.Refusals.{none, Exactly}
-use Rattle.demands.specs.Messages.{accepted, failedBy}
+use Rattle.demands.specs.Messages.{accepted, waiting, failedBy}
 use Rattle.demands.proofs.Firsts.{firstNumber, distinct, given-exactly, zero-exactly}
 
 -- the checks of an order, each with whether it fails, are rows of a table: the first that fails is the number of the first row that applies
@@ -45,6 +45,7 @@ unfolding orderOf
 rows-distinct failing Pacs008 = refl
 rows-distinct failing Camt050 = refl
 rows-distinct failing Pacs028 = refl
+rows-distinct failing Pacs002 = refl
 
 module _ (c : Case) (s : List ℕ) where
   abbrev order : List ℕ
@@ -96,24 +97,28 @@ pub high-taken : (k : ℕ) → 2 < k → notTaken k ≡ false
 unfolding notTaken
 high-taken k h = rw (ne-eqb k 1 (λ (e : k ≡ 1). omega arith), ne-eqb k 2 (λ (e : k ≡ 2). omega arith))
 
--- how a message ends that passes every check: a transfer with ACCC and 0, a pacs.028 with what has become of the payment that it asks after
+-- how a message ends that passes every check: a camt.050 or an answer with ACCC and 0, a pacs.008 waits, a pacs.028 with what has become of the
+-- payment that it asks after
 abbrev pub passedAs : Kind → Case → List ℕ → Outcome
-passedAs Pacs008 c s = accepted
+passedAs Pacs008 c s = waiting
 passedAs Camt050 c s = accepted
 passedAs Pacs028 c s = toldOf (askedAfter c s) s
+passedAs Pacs002 c s = accepted
 
 -- a message that passes every check, and one that fails by one
 end-passed : (kind : Kind) (c : Case) (s : List ℕ) → endOf kind 0 (toldOf (askedAfter c s) s) ≡ passedAs kind c s
-unfolding endOf transferred answered
+unfolding endOf transferred sent answered
 end-passed Pacs008 c s = refl
 end-passed Camt050 c s = refl
 end-passed Pacs028 c s = refl
+end-passed Pacs002 c s = refl
 
 end-failed : (kind : Kind) (k : ℕ) → 2 < k → (c : Case) (s : List ℕ) → endOf kind k (toldOf (askedAfter c s) s) ≡ failedBy kind k
-unfolding endOf transferred answered
+unfolding endOf transferred sent answered
 end-failed Pacs008 k h c s = rw (ne-eqb k 0 (λ (e : k ≡ 0). omega arith))
 end-failed Camt050 k h c s = rw (ne-eqb k 0 (λ (e : k ≡ 0). omega arith))
 end-failed Pacs028 k h c s = rw (ne-eqb k 0 (λ (e : k ≡ 0). omega arith))
+end-failed Pacs002 k h c s = rw (ne-eqb k 0 (λ (e : k ≡ 0). omega arith))
 
 module _ (c : Case) (s : List ℕ) where
   pub outcome-passed : verdict c s ≡ 0 → outcome c s ≡ passedAs (c .message .kind) c s
@@ -124,13 +129,17 @@ module _ (c : Case) (s : List ℕ) where
   unfolding outcome
   outcome-failed k h e = rw e (end-failed (c .message .kind) k h c s)
 
--- a message that fails by a check is not carried out, nor is a pacs.028
-pub failed-rests : (kind : Kind) (k : ℕ) → carried kind (failedBy kind k) ≡ false
-unfolding carried statusNumber
-failed-rests Pacs008 k = refl
-failed-rests Camt050 k = refl
-failed-rests Pacs028 k = refl
+-- a message that fails by a check neither moves money nor waits, and neither does a pacs.028
+abbrev pub Rests : Kind → Outcome → Type 0
+Rests kind o = (carried kind o ≡ false) × (awaits kind o ≡ false)
 
-pub asked-rests : (o : Outcome) → carried Pacs028 o ≡ false
-unfolding carried
-asked-rests o = refl
+pub failed-rests : (kind : Kind) (k : ℕ) → Rests kind (failedBy kind k)
+unfolding carried awaits statusNumber
+failed-rests Pacs008 k = (refl, refl)
+failed-rests Camt050 k = (refl, refl)
+failed-rests Pacs028 k = (refl, refl)
+failed-rests Pacs002 k = (refl, refl)
+
+pub asked-rests : (o : Outcome) → Rests Pacs028 o
+unfolding carried awaits
+asked-rests o = (refl, refl)

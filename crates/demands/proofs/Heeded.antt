@@ -2,16 +2,16 @@
 -- Assumes nothing.
 use mathlib.Core.Path.{_≡_, refl, sym, ap, subst, _∙_}
 use mathlib.Core.Bool.{Bool, true, false, not, false≢true}
-use mathlib.Core.List.{List, [], _∷_, _++_}
+use mathlib.Core.List.{List, _∷_, _++_}
 use Prim.Native.Nat.{ℕ, _≤_, _<_}
 use native.Mathlib.Omega.{arith}
 use lib.Dec.{leb, eqb}
 use borrow.Author.Tests.{eq-eqb, eqb-true, eqb-false, leb-true, leb-false}
 use Rattle.shape.specs.Bytes.{every}
 use Rattle.table.specs.declared.Kind.{Kind}
-use Rattle.table.specs.declared.Kind.the-variants.{Pacs008, Camt050, Pacs028}
+use Rattle.table.specs.declared.Kind.the-variants.{Pacs008, Camt050, Pacs028, Pacs002}
 use Rattle.table.specs.Checks.{orderOf}
-use Rattle.slip.specs.declared.Status.the-variants.{Accc}
+use Rattle.slip.specs.declared.Status.the-variants.{Accc, Waits}
 use Rattle.slip.specs.Meaning.{statusNumber}
 use Rattle.message.specs.declared.Message.{Message}
 use Rattle.message.specs.declared.Answer.{Answer}
@@ -25,18 +25,22 @@ use Rattle.layout.specs.Seat.{headOf, stepOf, seatOf}
 use Rattle.journal.specs.declared.results.Outcome.{Outcome}
 use Rattle.judge.specs.declared.case.Case.{Case}
 use Rattle.judge.specs.Case.{caseOf}
-use Rattle.judge.specs.Verdict.{fails, verdict, outcome, carried}
-use Rattle.judge.proofs.Ends.{told-apart, carried-none}
+use Rattle.judge.specs.Rows.{dueTo}
+use Rattle.judge.specs.Verdict.{fails, verdict, outcome, carried, awaits, closedBy}
+use Rattle.judge.proofs.Ends.{told-apart, carried-none, waits-none}
 use Rattle.centre.specs.declared.Ticket.{Ticket}
 use Rattle.centre.specs.Answers.{Told, refusedWith}
 use Rattle.centre.specs.Submit.{notTaken, submitTold, submitAfter, submitSlip}
 use Rattle.centre.proofs.Judged.{not-one, not-two}
 use Rattle.demands.specs.Refusals.{Exactly}
 use Rattle.demands.specs.Messages.{
+  passedStatus,
   accepted,
+  waiting,
   failedAs,
   failedBy,
   noMove,
+  answering,
   Heard,
   Recorded,
   Unmoved,
@@ -52,11 +56,11 @@ use Rattle.demands.proofs.Decided.{
   verdict-first,
   zero-passes,
   low-not-taken,
-  none-taken,
   high-taken,
   passedAs,
   outcome-passed,
   outcome-failed,
+  Rests,
   failed-rests,
 }
 use Rattle.demands.proofs.Heard.{Facts, facts, Read, read-good}
@@ -64,23 +68,34 @@ use Rattle.demands.proofs.Taken.{seat-open, not-taken, place-free, told
 use Rattle.demands.proofs.Money.{rested, passed-carried}
 use Rattle.demands.proofs.Slips.{slips}
 
--- ACCC is not the status of an empty place, and a transfer that has it is carried out
-accc-some : 0 ≡ statusNumber Accc → ⊥
+-- no kind passes with the status of an empty place
+passed-some : (kind : Kind) → 0 ≡ statusNumber (passedStatus kind) → ⊥
 unfolding statusNumber
-accc-some e = eqb-false 0 1 refl e
+passed-some Pacs008 e = eqb-false 0 3 refl e
+passed-some Camt050 e = eqb-false 0 1 refl e
+passed-some Pacs028 e = eqb-false 0 1 refl e
+passed-some Pacs002 e = eqb-false 0 1 refl e
 
-accepted-carried : (kind : Kind) (o : Outcome) → (kind ≡ Pacs028 → ⊥) → o .status ≡ statusNumber Accc → carried kind o ≡ true
-unfolding carried
-accepted-carried Pacs008 o transfers e = eq-eqb (o .status) (statusNumber Accc) e
-accepted-carried Camt050 o transfers e = eq-eqb (o .status) (statusNumber Accc) e
-accepted-carried Pacs028 o transfers e = absurd (transfers refl)
+-- a message of a kind that moves money or waits has passed, where it has the status of one that passes
+status-passed : (kind : Kind) (c : Case) (s : List ℕ) → c .message .kind ≡ kind → (kind ≡ Pacs028 → ⊥)
+    → outcome c s .status ≡ statusNumber (passedStatus kind) → verdict c s ≡ 0
+unfolding carried awaits
+status-passed Pacs008 c s same transfers e =
+    waits-none c s (subst (λ (k : Kind). awaits k (outcome c s) ≡ true) (sym same) (eq-eqb (outcome c s .status) (statusNumber Waits) e))
+status-passed Camt050 c s same transfers e =
+    carried-none c s (subst (λ (k : Kind). carried k (outcome c s) ≡ true) (sym same) (eq-eqb (outcome c s .status) (statusNumber Accc) e))
+status-passed Pacs028 c s same transfers e = absurd (transfers refl)
+status-passed Pacs002 c s same transfers e =
+    carried-none c s (subst (λ (k : Kind). carried k (outcome c s) ≡ true) (sym same) (eq-eqb (outcome c s .status) (statusNumber Accc) e))
 
--- ACCC is neither of the ends of a failing message
-accepted-apart : (kind : Kind) (k : ℕ) → accepted ≡ failedBy kind k → ⊥
+-- neither status is that of a failing message
+accepted-apart : (k : ℕ) → accepted ≡ failedBy Camt050 k → ⊥
 unfolding statusNumber
-accepted-apart Pacs008 k e = eqb-false 1 2 refl (ap (λ (o : Outcome). o .status) e)
-accepted-apart Camt050 k e = eqb-false 1 2 refl (ap (λ (o : Outcome). o .status) e)
-accepted-apart Pacs028 k e = eqb-false 1 0 refl (ap (λ (o : Outcome). o .status) e)
+accepted-apart k e = eqb-false 1 2 refl (ap (λ (o : Outcome). o .status) e)
+
+waiting-apart : (k : ℕ) → waiting ≡ failedBy Pacs008 k → ⊥
+unfolding statusNumber
+waiting-apart k e = eqb-false 3 2 refl (ap (λ (o : Outcome). o .status) e)
 
 module _ (dir : List Participant) (ticket : Ticket) (sender today : ℕ) (sheet slip room : List ℕ)
     (f : Facts dir ticket sender today sheet slip room) (m : Message) (good : receivedOf sheet .answer ≡ Good m) where
@@ -111,10 +126,11 @@ module _ (dir : List Participant) (ticket : Ticket) (sender today : ℕ) (sheet 
 
   -- one that passes does not end as one that fails
   apart : (kind : Kind) (k : ℕ) → 2 < k → passedAs kind case place ≡ failedBy kind k → ⊥
-  apart Pacs008 k high e = accepted-apart Pacs008 k e
-  apart Camt050 k high e = accepted-apart Camt050 k e
+  apart Pacs008 k high e = waiting-apart k e
+  apart Camt050 k high e = accepted-apart k e
   apart Pacs028 k high e =
       told-apart case place (seat-open dir ticket sender today sheet slip room f m good) k (λ (z : k ≡ 0). omega arith) e
+  apart Pacs002 k high e = accepted-apart k e
 
   -- what stands in its place in the journal
   abbrev stored : Step
@@ -123,21 +139,23 @@ module _ (dir : List Participant) (ticket : Ticket) (sender today : ℕ) (sheet 
   stored-status : notTaken (verdict case place) ≡ false → stored .status ≡ outcome case place .status
   stored-status takes = ap (λ (o : Outcome). o .status) (stored-outcome dir ticket sender today sheet slip room f m good takes)
 
-  -- a transfer that has ACCC was carried out, and so passed
-  has-passed : (m .kind ≡ Pacs028 → ⊥) → stored .status ≡ statusNumber Accc → verdict case place ≡ 0
+  -- a message that has the status of one that passes, passed
+  has-passed : (m .kind ≡ Pacs028 → ⊥) → stored .status ≡ statusNumber (passedStatus (m .kind)) → verdict case place ≡ 0
   unfolding caseOf
   has-passed transfers e = go (notTaken (verdict case place)) refl
     where
       go : (t : Bool) → notTaken (verdict case place) ≡ t → verdict case place ≡ 0
       go true refuses =
-          absurd (accc-some (ap (λ (x : Step). x .status) (sym (place-free dir ticket sender today sheet slip room f m good refuses)) ∙ e))
-      go false takes = carried-none case place (accepted-carried (m .kind) (outcome case place) transfers (sym (stored-status takes) ∙ e))
+          absurd (passed-some (m .kind) (ap (λ (x : Step). x .status) (sym (place-free dir ticket sender today sheet slip room f m good refuses)) ∙ e))
+      go false takes = status-passed (m .kind) case place refl transfers (sym (stored-status takes) ∙ e)
 
   -- and one that passed has it
-  has-accepted : (kind : Kind) → (kind ≡ Pacs028 → ⊥) → CarriedOut dir ticket sender today sheet slip room kind m → stored .status ≡ statusNumber Accc
+  has-accepted : (kind : Kind) → (kind ≡ Pacs028 → ⊥) → CarriedOut dir ticket sender today sheet slip room kind m
+      → stored .status ≡ statusNumber (passedStatus kind)
   has-accepted Pacs008 transfers out = ap (λ (x : Step). x .status) (out .recorded .stored)
   has-accepted Camt050 transfers out = ap (λ (x : Step). x .status) (out .recorded .stored)
   has-accepted Pacs028 transfers out = absurd (transfers refl)
+  has-accepted Pacs002 transfers out = ap (λ (x : Step). x .status) (out .recorded .stored)
 
   -- no check has the number 0
   not-zero : (k : ℕ) → fails case place k ≡ true → k ≡ 0 → ⊥
@@ -154,11 +172,20 @@ module _ (dir : List Participant) (ticket : Ticket) (sender today : ℕ) (sheet 
         not-taken dir ticket sender today sheet slip room f m good (ap notTaken first ∙ low-not-taken k low (not-zero k t)) in
         (nothing .0 ∙ ap (refusedWith 12) first, nothing .1, nothing .2)
 
-    failed-high : 2 < k → Recorded dir ticket sender today sheet slip room m (failedBy (m .kind) k) noMove
+    failed-high : 2 < k
+        → Recorded dir ticket sender today sheet slip room m (failedBy (m .kind) k) (answering noMove (closedBy (m .kind) k (dueTo case place)))
         × Unmoved dir ticket sender today sheet slip room
     failed-high high =
-        rested dir ticket sender today sheet slip room f m good (ap notTaken first ∙ high-taken k high) (failedBy (m .kind) k)
-        (ends-failed k high first) (ap (carried (m .kind)) (ends-failed k high first) ∙ failed-rests (m .kind) k)
+        let ended = ends-failed k high first in
+        let still =
+        rested dir ticket sender today sheet slip room f m good (ap notTaken first ∙ high-taken k high) (failedBy (m .kind) k) ended
+        (subst (λ (o : Outcome). Rests (m .kind) o) (sym ended) (failed-rests (m .kind) k)) in (
+          subst
+              (λ (n : ℕ).
+              Recorded dir ticket sender today sheet slip room m (failedBy (m .kind) k) (answering noMove (closedBy (m .kind) n (dueTo case place))))
+              first (still .0),
+          still .1,
+        )
 
   -- ended by check k, it is the first that fails
   refused-first : (k : ℕ) → submitTold dir ticket sender today sheet slip room ≡ refusedWith 12 k → verdict case place ≡ k

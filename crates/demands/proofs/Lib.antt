@@ -1,3 +1,4 @@
+pub mod Became
 pub mod CallsTied
 pub mod Decided
 pub mod Deeds

@@ -8,9 +8,6 @@ use lib.Dec.{eqb}
 use borrow.Author.Tests.{eqb-true, eqb-false, eq-eqb, ne-eqb}
 use Rattle.shape.specs.declared.value.Value.the-variants.{Of}
 use Rattle.shape.proofs.Tests.{and-left, and-right}
-use Rattle.table.specs.declared.Kind.{Kind}
-use Rattle.table.specs.declared.Kind.the-variants.{Pacs008, Camt050, Pacs028}
-use Rattle.slip.specs.Meaning.{kindNumber}
 use Rattle.layout.specs.declared.rows.Account.{Account}
 use Rattle.layout.specs.declared.rows.Step.{Step}
 use Rattle.journal.specs.Steps.{setKind, isKind, moves}
@@ -20,9 +17,9 @@ use Rattle.judge.specs.declared.case.Case.{Case}
 use Rattle.judge.specs.declared.case.Movement.{Movement}
 use Rattle.journal.specs.declared.results.Outcome.{Outcome}
 use Rattle.judge.specs.Values.{orZero}
-use Rattle.judge.specs.Verdict.{carried, stepMade}
+use Rattle.judge.specs.Verdict.{carried, awaits, stepMade}
 use Rattle.judge.proofs.Possible.{no-set-kind, made-moves}
-use Rattle.demands.specs.Messages.{Move, noMove, afterMove}
+use Rattle.demands.specs.Messages.{Move, noMove, Kept, answering, afterMove}
 
 -- numbers compared either way
 either-way : (a b : ℕ) → eqb a b ≡ eqb b a
@@ -69,26 +66,36 @@ moves-amount : (x : Step) (i : ℕ) (a : Account) → isKind setKind x ≡ false
 unfolding after
 moves-amount x i a k n = rw (k, n) (move-after (x .debit) (x .credit) (x .amount) i a)
 
-module _ (c : Case) (m : Movement) (o : Outcome) where
-  is-no-set : isKind setKind (stepMade c m o) ≡ false
+-- what a step keeps
+abbrev pub keptIn : Step → Kept
+keptIn x = record { move = moveIn x; receiver = x .receiver; answers = x .answers }
+
+module _ (c : Case) (m : Movement) (n : ℕ) (o : Outcome) where
+  is-no-set : isKind setKind (stepMade c m n o) ≡ false
   unfolding stepMade
   is-no-set = no-set-kind (c .message .kind)
 
-  -- not carried out: it stores no movement, and nothing moves
-  pub rests-still : carried (c .message .kind) o ≡ false → moveIn (stepMade c m o) ≡ noMove
+  -- it neither moves money nor waits: it keeps no movement
+  pub rests-still : carried (c .message .kind) o ≡ false → awaits (c .message .kind) o ≡ false → keptIn (stepMade c m n o) ≡ answering noMove n
   unfolding stepMade
-  rests-still e = rw e
+  rests-still e f = rw (e, f)
 
-  pub rests : carried (c .message .kind) o ≡ false → (i : ℕ) (a : Account) → after (stepMade c m o) i a ≡ a
-  rests e i a = moves-nothing (stepMade c m o) i a is-no-set (made-moves c m o ∙ e)
+  -- where it moves none, the accounts are as they were
+  pub rests : carried (c .message .kind) o ≡ false → (i : ℕ) (a : Account) → after (stepMade c m n o) i a ≡ a
+  rests e i a = moves-nothing (stepMade c m n o) i a is-no-set (made-moves c m n o ∙ e)
 
-  -- carried out between two accounts: it stores that movement, and so the accounts are
-  module _ (e : carried (c .message .kind) o ≡ true) (move : Move) (from : m .debit ≡ Of (move .debit))
-      (to : m .credit ≡ Of (move .credit)) (sum : m .amount ≡ move .amount) where
-    pub moves-so : moveIn (stepMade c m o) ≡ move
+  -- between two accounts it keeps that movement; where it is carried out, the accounts are so
+  module _ (move : Move) (from : m .debit ≡ Of (move .debit)) (to : m .credit ≡ Of (move .credit)) (sum : m .amount ≡ move .amount) where
+    pub moves-so : carried (c .message .kind) o ≡ true → awaits (c .message .kind) o ≡ false → keptIn (stepMade c m n o) ≡ answering move n
     unfolding stepMade orZero
-    moves-so = rw (e, from, to, sum)
+    moves-so e f = rw (e, f, from, to, sum)
 
-    pub carries : (i : ℕ) (a : Account) → after (stepMade c m o) i a ≡ afterMove move i a
-    carries i a =
-        moves-amount (stepMade c m o) i a is-no-set (made-moves c m o ∙ e) ∙ ap (λ (x : Move). afterMove x i a) moves-so
+    pub waits-so : carried (c .message .kind) o ≡ false → awaits (c .message .kind) o ≡ true → (receiver : ℕ) → c .message .instructed ≡ Of receiver
+        → keptIn (stepMade c m n o) ≡ record { move = move; receiver = receiver; answers = n }
+    unfolding stepMade orZero
+    waits-so e f receiver is = rw (e, f, from, to, sum, is)
+
+    pub carries : carried (c .message .kind) o ≡ true → awaits (c .message .kind) o ≡ false → (i : ℕ) (a : Account)
+        → after (stepMade c m n o) i a ≡ afterMove move i a
+    carries e f i a =
+        moves-amount (stepMade c m n o) i a is-no-set (made-moves c m n o ∙ e) ∙ ap (λ (x : Kept). afterMove (x .move) i a) (moves-so e f)

@@ -2,21 +2,19 @@
 -- result is, so that the check on repeats fails for the second.
 -- Assumes nothing.
 use mathlib.Core.Path.{_≡_, refl, sym, ap, subst, _∙_}
-use mathlib.Core.Bool.{Bool, true, false, not, _&&_, _||_, cond, false≢true}
-use mathlib.Core.List.{List, [], _∷_, _++_}
-use Prim.Native.Nat.{ℕ, zero, suc, _+_, _≤_, _<_}
+use mathlib.Core.Bool.{Bool, true, false, not, _||_, false≢true}
+use mathlib.Core.List.{List, [], _∷_}
+use Prim.Native.Nat.{ℕ, zero, suc, _<_}
 use native.Mathlib.Omega.{arith}
 use lib.Dec.{eqb, lit<}
-use lib.ListN.{getD, take}
-use borrow.Author.Tests.{eqb-true, eqb-false, eq-eqb, not-true}
-use Rattle.shape.specs.Bytes.{every}
+use lib.ListN.{take}
+use borrow.Author.Tests.{eq-eqb, not-true}
 use Rattle.shape.specs.declared.stored.Identifier.{Identifier}
 use Rattle.shape.specs.declared.stored.Uetr.{Uetr}
 use Rattle.shape.specs.Stored.{sameIdentifier, sameUetr}
 use Rattle.shape.proofs.Tests.{and-left, and-right, at-place}
 use Rattle.table.specs.declared.Kind.{Kind}
-use Rattle.table.specs.declared.Kind.the-variants.{Pacs008, Camt050, Pacs028}
-use Rattle.table.specs.Checks.{orderOf}
+use Rattle.table.specs.declared.Kind.the-variants.{Pacs008, Camt050, Pacs028, Pacs002}
 use Rattle.slip.specs.Meaning.{kindNumber}
 use Rattle.message.specs.declared.Message.{Message}
 use Rattle.message.specs.declared.Answer.{Answer}
@@ -29,58 +27,32 @@ use Rattle.layout.specs.declared.rows.Step.{Step}
 use Rattle.layout.specs.Seat.{headOf, stepOf, seatOf}
 use Rattle.journal.specs.declared.traces.Trace.{Trace}
 use Rattle.journal.specs.declared.traces.Trace.the-variants as trace
-use Rattle.journal.specs.declared.traces.Earlier.{Earlier}
-use Rattle.journal.specs.declared.traces.Earlier.the-variants as earlier
 use Rattle.journal.specs.Steps.{setKind, isKind}
-use Rattle.journal.specs.Working.{stepsFrom, journalOf}
-use Rattle.journal.specs.Traces.{leaves, firstIn, earliest, isThere}
+use Rattle.journal.specs.Traces.{leaves, earliest, isThere}
+use Rattle.journal.proofs.TraceLaws.{none-leaves}
 use Rattle.judge.specs.declared.case.Case.{Case}
 use Rattle.judge.specs.Case.{caseOf}
 use Rattle.judge.specs.Rows.{identifierRepeated, uetrRepeated}
-use Rattle.judge.specs.Verdict.{fails, rowsOf, verdict, stepMade, judgedStep}
+use Rattle.judge.specs.Verdict.{fails, rowsOf, verdict, stepMade, stepBy, judgedStep}
 use Rattle.judge.proofs.Possible.{no-set-kind}
 use Rattle.centre.specs.declared.Ticket.{Ticket}
 use Rattle.centre.specs.Submit.{verdictOn, notTaken, submitTold, submitAfter}
 use Rattle.demands.specs.Calls.{Call, submit, under, actTold, callTold}
 use Rattle.demands.specs.Refusals.{none, table}
 use Rattle.demands.specs.Messages.{Heard}
-use Rattle.demands.specs.EasilyWrong.{Handed, OneAfterOther, EndsBy}
+use Rattle.demands.specs.EasilyWrong.{isTransfer, Handed, OneAfterOther, EndsBy}
 use Rattle.demands.proofs.Tables.{tableOf, done-none}
 use Rattle.demands.proofs.Heard.{Facts, facts}
 use Rattle.demands.proofs.Taken.{head-after, step-after}
 use Rattle.demands.proofs.Heeded.{judged}
 
--- a step that is found at once is there, and one that is found later too
-found-here : (t : Bool) (k : ℕ) (x : Step) (rest : Earlier) → t ≡ true → isThere (cond t (earlier.Of k x) rest) ≡ true
-unfolding isThere
-found-here t k x rest e = rw e
-
-found-later : (t : Bool) (k : ℕ) (x : Step) (rest : Earlier) → isThere rest ≡ true → isThere (cond t (earlier.Of k x) rest) ≡ true
-unfolding isThere
-found-later true k x rest e = refl
-found-later false k x rest e = e
-
 -- a step of the journal leaves the trace, so a first one is there
-found-from : (trace : Trace) (s : List ℕ) (n j k : ℕ) → j ≤ k → k < j + n → leaves trace (stepOf s k) ≡ true
-    → isThere (firstIn trace j (stepsFrom s j n)) ≡ true
-unfolding firstIn stepsFrom
-found-from trace s zero j k low high e = absurd (omega arith)
-found-from trace s (suc n) j k low high e =
-    go (eqb j k) refl (λ (apart : j ≡ k → ⊥). found-from trace s n (suc j) k (omega (arith, apart)) (omega arith) e)
+found-in : (trace : Trace) (s : List ℕ) (k : ℕ) → k < headOf s .steps → leaves trace s k (stepOf s k) ≡ true → isThere (earliest trace s) ≡ true
+found-in trace s k there e = go (isThere (earliest trace s)) refl
   where
-    rest : Earlier
-    rest = firstIn trace (suc j) (stepsFrom s (suc j) n)
-
-    go : (t : Bool) → eqb j k ≡ t → ((j ≡ k → ⊥) → isThere rest ≡ true)
-        → isThere (cond (leaves trace (stepOf s j)) (earlier.Of j (stepOf s j)) rest) ≡ true
-    go true same further =
-        found-here (leaves trace (stepOf s j)) j (stepOf s j) rest
-        (subst (λ (i : ℕ). leaves trace (stepOf s i) ≡ true) (sym (eqb-true j k same)) e)
-    go false other further = found-later (leaves trace (stepOf s j)) j (stepOf s j) rest (further (eqb-false j k other))
-
-found-in : (trace : Trace) (s : List ℕ) (k : ℕ) → k < headOf s .steps → leaves trace (stepOf s k) ≡ true → isThere (earliest trace s) ≡ true
-unfolding earliest journalOf
-found-in trace s k there e = found-from trace s (headOf s .steps) 0 k (omega arith) (omega arith) e
+    go : (t : Bool) → isThere (earliest trace s) ≡ t → t ≡ true
+    go true f = refl
+    go false f = absurd (false≢true (sym (none-leaves trace s f k there) ∙ e))
 
 module _ (s : List ℕ) (k : ℕ) (there : k < headOf s .steps) where
   pub uetr-found : (isKind (kindNumber Pacs008) (stepOf s k) || isKind (kindNumber Camt050) (stepOf s k)) ≡ true
@@ -120,12 +92,13 @@ module _ (dir : List Participant) (ticket : Ticket) (sender today : ℕ) (sheet 
       (at-place (λ row. not (row .1)) (tableOf dir room call) (0, false) none-applies 11 (lit< tt))
 
 -- the step of a transfer is one
-is-transfer : (kind : Kind) → (kind ≡ Pacs028 → ⊥)
+transfer-kind : (kind : Kind) → isTransfer kind ≡ true
     → (eqb (kindNumber kind) (kindNumber Pacs008) || eqb (kindNumber kind) (kindNumber Camt050)) ≡ true
 unfolding kindNumber
-is-transfer Pacs008 other = refl
-is-transfer Camt050 other = refl
-is-transfer Pacs028 other = absurd (other refl)
+transfer-kind Pacs008 e = refl
+transfer-kind Camt050 e = refl
+transfer-kind Pacs028 e = absurd (false≢true e)
+transfer-kind Pacs002 e = absurd (false≢true e)
 
 -- what is stored is the same as itself
 same-uetr : (x y : Uetr) → y ≡ x → sameUetr x y ≡ true
@@ -180,15 +153,15 @@ module _ (dir : List Participant) (ticket : Ticket) (room : List ℕ) (first sec
   first-step = step-after dir ticket (first .sender) (first .today) (first .sheet) (first .slip) room first-facts m first-good first-taken
 
   first-kind : stepOf seatThen count .kind ≡ kindNumber (m .kind)
-  unfolding judgedStep stepMade caseOf
+  unfolding judgedStep stepBy stepMade caseOf
   first-kind = ap (λ (x : Step). x .kind) first-step
 
   first-uetr : stepOf seatThen count .uetr ≡ m .uetr
-  unfolding judgedStep stepMade caseOf
+  unfolding judgedStep stepBy stepMade caseOf
   first-uetr = ap (λ (x : Step). x .uetr) first-step
 
   first-identifier : stepOf seatThen count .id ≡ m .id .stored
-  unfolding judgedStep stepMade caseOf
+  unfolding judgedStep stepBy stepMade caseOf
   first-identifier = ap (λ (x : Step). x .id) first-step
 
   -- the second is judged there
@@ -208,10 +181,10 @@ module _ (dir : List Participant) (ticket : Ticket) (room : List ℕ) (first sec
       judged dir ticket (second .sender) (second .today) (second .sheet) (second .slip) then second-facts n second-good
       .failed before check later split passed fails-so
 
-  uetr-repeated : (m .kind ≡ Pacs028 → ⊥) → n .uetr ≡ m .uetr → fails secondCase seatThen 17 ≡ true
+  uetr-repeated : isTransfer (m .kind) ≡ true → n .uetr ≡ m .uetr → fails secondCase seatThen 17 ≡ true
   unfolding fails rowsOf caseOf
   uetr-repeated transfers same =
-      uetr-found seatThen count first-there (rw first-kind (is-transfer (m .kind) transfers)) secondCase
+      uetr-found seatThen count first-there (rw first-kind (transfer-kind (m .kind) transfers)) secondCase
       (same-uetr (stepOf seatThen count .uetr) (n .uetr) (same ∙ sym first-uetr))
 
   identifier-repeated : n .id .stored ≡ m .id .stored → fails secondCase seatThen 6 ≡ true
@@ -220,7 +193,7 @@ module _ (dir : List Participant) (ticket : Ticket) (room : List ℕ) (first sec
       identifier-found seatThen count first-there (rw first-kind (no-set-kind (m .kind))) secondCase
       (same-identifier (stepOf seatThen count .id) (n .id .stored) (same ∙ sym first-identifier))
 
-  pub uetr-kept : (m .kind ≡ Pacs028 → ⊥) → (n .kind ≡ Pacs028 → ⊥) → n .uetr ≡ m .uetr → EndsBy 17 dir ticket room first second m n
+  pub uetr-kept : isTransfer (m .kind) ≡ true → isTransfer (n .kind) ≡ true → n .uetr ≡ m .uetr → EndsBy 17 dir ticket room first second m n
   uetr-kept transfers other same = ends-by 17 (uetr-repeated transfers same)
 
   pub identifier-kept : n .id .stored ≡ m .id .stored → EndsBy 6 dir ticket room first second m n

@@ -2,7 +2,7 @@
 -- the seat can take, with its slip in the buffer.
 -- Assumes nothing.
 use mathlib.Core.Path.{_≡_, refl, sym, ap, subst, _∙_}
-use mathlib.Core.Bool.{true, false}
+use mathlib.Core.Bool.{true, false, cond}
 use mathlib.Core.List.{List, [], _++_}
 use Prim.Native.Nat.{ℕ, suc, _-_, _≤_, _<_}
 use native.Mathlib.Omega.{arith}
@@ -20,12 +20,14 @@ use Rattle.message.specs.declared.Answer.the-variants.{Good}
 use Rattle.message.specs.Received.{receivedOf}
 use Rattle.directory.specs.declared.Participant.{Participant}
 use Rattle.directory.specs.Directory.{codeMost}
+use Rattle.layout.specs.declared.rows.Head.{Head}
 use Rattle.layout.specs.declared.rows.Step.{Step}
 use Rattle.layout.specs.Seat.{accounts, seatLong, headOf, accountOf, stepOf, seatOf, withSeat}
 use Rattle.layout.proofs.Rooms.{seat-got}
 use Rattle.journal.specs.Steps.{noStep, stepFits}
-use Rattle.journal.specs.Working.{stepped, covered, possible}
-use Rattle.journal.proofs.Backed.{possible-fits}
+use Rattle.journal.specs.Answers.{resultNow}
+use Rattle.journal.specs.Working.{stepped, possible}
+use Rattle.journal.proofs.Backed.{possible-fits, possible-answerable}
 use Rattle.journal.proofs.Changed.{after, stepped-length, stepped-head, stepped-last, stepped-other, stepped-account}
 use Rattle.seat.specs.Fit.{openFits, seatFits}
 use Rattle.seat.proofs.Answered.{ticket-good}
@@ -36,7 +38,7 @@ use Rattle.seat.proofs.Rooms.{room-long, room-seat}
 use Rattle.judge.specs.declared.case.Case.{Case}
 use Rattle.journal.specs.declared.results.Outcome.{Outcome}
 use Rattle.judge.specs.Case.{caseOf, Arises}
-use Rattle.judge.specs.Verdict.{verdict, outcome, stepMade, judgedStep}
+use Rattle.judge.specs.Verdict.{verdict, outcome, stepMade, stepBy, judgedStep}
 use Rattle.judge.proofs.Possible.{judged-says, judged-possible}
 use Rattle.centre.specs.declared.Ticket.{Ticket}
 use Rattle.centre.specs.Answers.{done, refusedWith, slipValues, isDone}
@@ -44,9 +46,10 @@ use Rattle.centre.specs.Submit.{verdictOn, notTaken, stepOn, slipOf, judgedTold
 use Rattle.centre.specs.Slips.{readTold}
 use Rattle.centre.proofs.First.{behind-done, behind-refused}
 use Rattle.centre.proofs.Judged.{done-refused, not-one, not-two}
-use Rattle.demands.specs.Messages.{Move, slipSaid, stepStored, Recorded}
+use Rattle.demands.specs.Messages.{Kept, slipSaid, stepStored, Recorded}
 use Rattle.demands.proofs.Heard.{Facts, seat-there, seat-own}
-use Rattle.demands.proofs.Movement.{moveIn}
+use Rattle.demands.proofs.Movement.{keptIn}
+use Rattle.demands.proofs.Became.{became, unanswered}
 use Rattle.demands.proofs.Slips.{image-read}
 
 -- an answer that is done, and one that is refused by 12
@@ -149,10 +152,12 @@ module _ (dir : List Participant) (ticket : Ticket) (sender today : ℕ) (sheet 
     finished : isDone (submitTold dir ticket sender today sheet slip room) ≡ true
     finished = ap isDone told-done ∙ done-done
 
+    pub made-possible : possible made place ≡ true
+    made-possible =
+        judged-possible case place arises seat-long seat-open (not-one (verdict case place) takes) (not-two (verdict case place) takes)
+
     pub made-fits : stepFits made ≡ true
-    made-fits =
-        possible-fits made place
-        (judged-possible case place arises seat-long seat-open (not-one (verdict case place) takes) (not-two (verdict case place) takes))
+    made-fits = possible-fits made place made-possible
 
     room-after : submitAfter dir ticket sender today sheet slip room ≡ withSeat room (ticket .seat) (stepped made place)
     unfolding submitTold submitAfter
@@ -182,7 +187,7 @@ module _ (dir : List Participant) (ticket : Ticket) (sender today : ℕ) (sheet 
 
     -- what the slip says, by the step and by the outcome
     said-so : slipOf ticket (suc (headOf place .steps)) made ≡ slipSaid dir ticket sender today sheet slip room m (outcome case place)
-    unfolding slipOf judgedStep stepMade caseOf
+    unfolding slipOf judgedStep stepBy stepMade outcome caseOf
     said-so = refl
 
     slip-left : submitSlip dir ticket sender today sheet slip room
@@ -191,7 +196,7 @@ module _ (dir : List Participant) (ticket : Ticket) (sender today : ℕ) (sheet 
 
     -- it is a slip
     says-so : says (kindNumber (m .kind)) (outcome case place .status) (outcome case place .check) ≡ true
-    unfolding judgedStep stepMade caseOf
+    unfolding judgedStep stepBy stepMade outcome caseOf
     says-so = judged-says case place arises seat-open (not-one (verdict case place) takes) (not-two (verdict case place) takes)
 
     opening-own : headOf place .opening ≡ ticket .opening
@@ -224,8 +229,8 @@ module _ (dir : List Participant) (ticket : Ticket) (sender today : ℕ) (sheet 
     pub step-after : stepOf (seatOf (submitAfter dir ticket sender today sheet slip room) (ticket .seat)) (headOf place .steps) ≡ made
     step-after = ap (λ (s : List ℕ). stepOf s (headOf place .steps)) seat-after ∙ stepped-last made place seat-long made-fits steps-low
 
-    made-so : made ≡ stepStored dir ticket sender today sheet slip room m (outcome case place) (moveIn made)
-    unfolding judgedStep stepMade caseOf
+    made-so : made ≡ stepStored dir ticket sender today sheet slip room m (outcome case place) (keptIn made)
+    unfolding judgedStep stepBy stepMade outcome caseOf
     made-so = refl
 
     -- of the room nothing else has changed
@@ -243,8 +248,22 @@ module _ (dir : List Participant) (ticket : Ticket) (sender today : ℕ) (sheet 
         ap (λ (s : List ℕ). stepOf s k) seat-after
         ∙ stepped-other made place seat-long made-fits steps-low k low (λ (e : headOf place .steps ≡ k). apart (sym e))
 
-    -- it is recorded with its outcome and its movement
-    outcome-recorded : Recorded dir ticket sender today sheet slip room m (outcome case place) (moveIn made)
+    -- what has become of an earlier step
+    earlier-became : (k : ℕ) → k < headOf place .steps
+        → resultNow (seatOf (submitAfter dir ticket sender today sheet slip room) (ticket .seat)) k
+        ≡ cond (eqb (keptIn made .answers) (suc k)) (outcome case place) (resultNow place k)
+    unfolding judgedStep stepBy stepMade outcome
+    earlier-became k low =
+        became place (seatOf (submitAfter dir ticket sender today sheet slip room) (ticket .seat)) made
+        (ap (λ (h : Head). h .steps) head-after) step-after
+        (λ (p : ℕ) (h : p < headOf place .steps). steps-kept p (below p h) (λ (e : p ≡ headOf place .steps). omega arith))
+        k low (unanswered made place k (possible-answerable made place made-possible))
+      where
+        below : (p : ℕ) → p < headOf place .steps → p < steps
+        below p h = let few : headOf place .steps < steps = steps-low in omega arith
+
+    -- it is recorded with its outcome and what it keeps
+    outcome-recorded : Recorded dir ticket sender today sheet slip room m (outcome case place) (keptIn made)
     outcome-recorded = record {
       answered = told-done;
       slipped = slip-left;
@@ -254,13 +273,14 @@ module _ (dir : List Participant) (ticket : Ticket) (sender today : ℕ) (sheet 
       elsewhere = room-left;
       headed = head-after;
       kept = steps-kept;
+      became = earlier-became;
     }
 
-    pub recorded : (o : Outcome) (move : Move) → outcome case place ≡ o → moveIn made ≡ move
-        → Recorded dir ticket sender today sheet slip room m o move
-    recorded o move e moves =
-        subst (λ (x : Outcome). Recorded dir ticket sender today sheet slip room m x move) e
-        (subst (λ (x : Move). Recorded dir ticket sender today sheet slip room m (outcome case place) x) moves outcome-recorded)
+    pub recorded : (o : Outcome) (keeps : Kept) → outcome case place ≡ o → keptIn made ≡ keeps
+        → Recorded dir ticket sender today sheet slip room m o keeps
+    recorded o keeps e same =
+        subst (λ (x : Outcome). Recorded dir ticket sender today sheet slip room m x keeps) e
+        (subst (λ (x : Kept). Recorded dir ticket sender today sheet slip room m (outcome case place) x) same outcome-recorded)
 
     -- and its place shows that outcome
     pub stored-outcome : record {

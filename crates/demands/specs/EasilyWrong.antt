@@ -1,11 +1,12 @@
 -- "Easy to get wrong": the three lines of document 01, each as it has to be.
-use mathlib.Core.Bool.{true, false, _||_}
+use mathlib.Core.Bool.{Bool, true, false, _||_}
 use mathlib.Core.List.{List, _∷_, _++_}
 use mathlib.Core.Path.{_≡_}
 use Prim.Native.Nat.{ℕ, _<_}
 use Rattle.shape.specs.Bytes.{every}
 use Rattle.shape.specs.Stored.{sameIdentifier, sameUetr}
-use Rattle.table.specs.declared.Kind.the-variants.{Pacs008, Camt050, Pacs028}
+use Rattle.table.specs.declared.Kind.{Kind}
+use Rattle.table.specs.declared.Kind.the-variants.{Pacs008, Camt050, Pacs028, Pacs002}
 use Rattle.table.specs.Checks.{orderOf}
 use Rattle.slip.specs.Meaning.{steps, kindNumber}
 use Rattle.message.specs.declared.Message.{Message}
@@ -25,6 +26,13 @@ use Rattle.judge.specs.declared.case.Case.{Case}
 use Rattle.judge.specs.Rows.{identifierRepeated, uetrRepeated}
 use Rattle.centre.specs.declared.Ticket.{Ticket}
 use Rattle.demands.specs.Messages.{answer, roomThen, Heard, passes, FailedBy}
+
+-- the kinds of messages that have a UETR of their own
+abbrev pub isTransfer : Kind → Bool
+isTransfer Pacs008 = true
+isTransfer Camt050 = true
+isTransfer Pacs028 = false
+isTransfer Pacs002 = false
 
 -- what a submit hands in
 pub record Handed : Type 0 where
@@ -60,7 +68,7 @@ pub record Taken (x : Step) (s : List ℕ) : Type 0 where
 pub record EasilyWrong : Type 0 where
   -- a transfer keeps its UETR however it ended, a rejected camt.050 too: a second transfer with it fails by 17
   pub uetr-kept : (dir : List Participant) (ticket : Ticket) (room : List ℕ) (first second : Handed) (m n : Message)
-      → OneAfterOther dir ticket room first second m n → (m .kind ≡ Pacs028 → ⊥) → (n .kind ≡ Pacs028 → ⊥) → n .uetr ≡ m .uetr
+      → OneAfterOther dir ticket room first second m n → isTransfer (m .kind) ≡ true → isTransfer (n .kind) ≡ true → n .uetr ≡ m .uetr
       → EndsBy 17 dir ticket room first second m n
   -- and a message of any kind its identifier: a second one with it fails by 6
   pub identifier-kept : (dir : List Participant) (ticket : Ticket) (room : List ℕ) (first second : Handed) (m n : Message)

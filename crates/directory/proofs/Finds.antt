@@ -74,17 +74,22 @@ fit-names dir fit =
     (leb 1 (length dir) && leb (length dir) recordsMost && every (λ (p : Participant). leb (p .code) codeMost) dir && ascending dir)
     (every (λ (p : Participant). names dir (p .kind)) dir) fit
 
+-- what is tested of a fit directory before the order of its codes
+fit-front : (dir : List Participant) → isFit dir ≡ true
+    → (leb 1 (length dir) && leb (length dir) recordsMost && every (λ (p : Participant). leb (p .code) codeMost) dir) ≡ true
+unfolding isFit
+fit-front dir fit =
+    let codes = every (λ (p : Participant). leb (p .code) codeMost) dir in
+    and-left (leb 1 (length dir) && leb (length dir) recordsMost && codes) (ascending dir)
+    (and-left (leb 1 (length dir) && leb (length dir) recordsMost && codes && ascending dir)
+    (every (λ (p : Participant). names dir (p .kind)) dir) fit)
+
 -- a fit directory has no more records than there are places
 pub fit-few : (dir : List Participant) → isFit dir ≡ true → length dir ≤ recordsMost
-unfolding isFit
 fit-few dir fit =
     leb-true (length dir) recordsMost
     (and-right (leb 1 (length dir)) (leb (length dir) recordsMost)
-    (and-left (leb 1 (length dir) && leb (length dir) recordsMost) (every (λ (p : Participant). leb (p .code) codeMost) dir)
-    (and-left (leb 1 (length dir) && leb (length dir) recordsMost && every (λ (p : Participant). leb (p .code) codeMost) dir) (ascending dir)
-    (and-left
-    (leb 1 (length dir) && leb (length dir) recordsMost && every (λ (p : Participant). leb (p .code) codeMost) dir && ascending dir)
-    (every (λ (p : Participant). names dir (p .kind)) dir) fit))))
+    (and-left (leb 1 (length dir) && leb (length dir) recordsMost) (every (λ (p : Participant). leb (p .code) codeMost) dir) (fit-front dir fit)))
 
 -- in a fit directory the code that a record names is an owner's
 pub owner-named : (dir : List Participant) → isFit dir ≡ true → (i : ℕ) → i < length dir
@@ -111,6 +116,15 @@ found-tested f j (q ∷ dir) code k p t e =
 pub found-names : (dir : List Participant) → isFit dir ≡ true → (code k : ℕ) (p : Participant) → found dir code ≡ At k p → names dir (p .kind) ≡ true
 unfolding found
 found-names dir fit code k p e = found-tested (λ (p : Participant). names dir (p .kind)) 0 dir code k p (fit-names dir fit) e
+
+-- and no code is found there that is too high
+pub found-low : (dir : List Participant) → isFit dir ≡ true → (code k : ℕ) (p : Participant) → found dir code ≡ At k p → code ≤ codeMost
+unfolding found
+found-low dir fit code k p e =
+    let codes = every (λ (q : Participant). leb (q .code) codeMost) dir in
+    let low = and-right (leb 1 (length dir) && leb (length dir) recordsMost) codes (fit-front dir fit) in
+    let here = leb-true (p .code) codeMost (found-tested (λ (q : Participant). leb (q .code) codeMost) 0 dir code k p low e) in
+    omega (arith, here, code-from 0 dir code k p e .0)
 
 -- an owner uses its own accounts, and a direct branch those of the owner that it names
 bank-uses : (dir : List Participant) (code k : ℕ) (p : Participant) → found dir code ≡ At k p → (kind : Kind) → p .kind ≡ kind

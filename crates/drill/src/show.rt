@@ -154,7 +154,7 @@ fn put_identifier(x: Identifier) {
     put_number(x.fifth);
 }
 
-// A step's 29 numbers in the order of their places.
+// A step's numbers in the order of their places.
 fn put_step(x: Step) {
     put_number(x.kind);
     put_number(x.status);
@@ -171,6 +171,8 @@ fn put_step(x: Step) {
     put_number(x.account);
     put_settings(x.old);
     put_settings(x.given);
+    put_number(x.receiver);
+    put_number(x.answers);
 }
 
 fn put_step_row(number: u64, x: Step) {

@@ -2,7 +2,7 @@
 -- the journal's place, which is zero again.
 -- Assumes nothing.
 use mathlib.Core.Path.{_≡_, refl, sym, ap, subst, _∙_}
-use mathlib.Core.Bool.{Bool, true, false, cond}
+use mathlib.Core.Bool.{Bool, true, false, _&&_, cond}
 use mathlib.Core.List.{List}
 use Prim.Native.Nat.{ℕ, suc, _+_, _-_, _≤_, _<_}
 use native.Mathlib.Nat.{add-sub-cancel, sub-add-cancel}
@@ -29,6 +29,7 @@ use Rattle.layout.proofs.Seats.{
   same-seat,
 }
 use Rattle.journal.specs.Steps.{setKind, isKind, moves, stepFits, noStep}
+use Rattle.journal.specs.Answers.{answerable}
 use Rattle.journal.specs.Working.{
   settled,
   debited,
@@ -107,11 +108,15 @@ module _ (x : Step) (s : List ℕ) (n : ℕ) (l : length s ≡ seatLong) (e : st
 module _ (x : Step) (s : List ℕ) (p : possible x s ≡ true) where
   pub possible-fits : stepFits x ≡ true
   unfolding possible
-  possible-fits = and-left (stepFits x) (covered x s) p
+  possible-fits = and-left (stepFits x) (covered x s) (and-left (stepFits x && covered x s) (answerable x s) p)
 
   pub possible-covered : covered x s ≡ true
   unfolding possible
-  possible-covered = and-right (stepFits x) (covered x s) p
+  possible-covered = and-right (stepFits x) (covered x s) (and-left (stepFits x && covered x s) (answerable x s) p)
+
+  pub possible-answerable : answerable x s ≡ true
+  unfolding possible
+  possible-answerable = and-right (stepFits x && covered x s) (answerable x s) p
 
   -- a set's old settings are those of the moment
   pub possible-old : isKind setKind x ≡ true → x .old ≡ accountOf s (x .account) .settings

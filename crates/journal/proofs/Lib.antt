@@ -1,4 +1,5 @@
 pub mod Above
+pub mod AnswerLaws
 pub mod Backed
 pub mod Changed
 pub mod Grown
@@ -9,5 +10,6 @@ pub mod Settled
 pub mod StepLaws
 pub mod StoredLaws
 pub mod Sums
+pub mod ToldLaws
 pub mod TraceLaws
 pub mod WorkedLaws

@@ -16,6 +16,7 @@ use Rattle.layout.specs.Seat.{accounts, headOf, withHead, accountOf, withAccoun
 use Rattle.layout.proofs.Seats.{account-other}
 use Rattle.journal.specs.Low.{lowMost, Low}
 use Rattle.journal.specs.Steps.{setKind, amountMost, moves, sameSettings, stepFits, noStep}
+use Rattle.journal.specs.Answers.{answerable}
 use Rattle.journal.specs.Working.{
   settled,
   debited,
@@ -127,9 +128,13 @@ module _ (x : Step) (s : List ℕ) where
   unfolding possible
   unfit f = rw f
 
-  pub fit : (b : Bool) → stepFits x ≡ true → b ≡ covered x s → b ≡ possible x s
+  pub uncovered : stepFits x ≡ true → covered x s ≡ false → false ≡ possible x s
   unfolding possible
-  fit b f e = rw f e
+  uncovered f c = rw (f, c)
+
+  pub fit : (b : Bool) → stepFits x ≡ true → covered x s ≡ true → b ≡ answerable x s → b ≡ possible x s
+  unfolding possible
+  fit b f c e = rw (f, c) e
 
 -- the accounts that a fit step names, by the tests as the code makes them: a set its own, a step that moves money both sides
 pub set-named : (x : Step) → stepFits x ≡ true → x .kind ≡ setKind → x .account < accounts

@@ -35,8 +35,8 @@ use Rattle.journal.proofs.traces.is_there.Kinds as is-there-kinds
 use Rattle.journal.proofs.traces.is_there.Reads as is-there-reads
 use Rattle.journal.proofs.traces.is_known.Kinds as is-known-kinds
 use Rattle.journal.proofs.traces.is_known.Reads as is-known-reads
-use Rattle.journal.proofs.results.result_now.Kinds as result-now-kinds
-use Rattle.journal.proofs.results.result_now.Reads as result-now-reads
+use Rattle.journal.proofs.answers.result_now.Kinds as result-now-kinds
+use Rattle.journal.proofs.answers.result_now.Reads as result-now-reads
 
 pub no-settings : Settled _ no-settings-kinds.ps no-settings-kinds.r no-settings-reads.Post
 no-settings κs a x y e f = by-equation

@@ -1,7 +1,7 @@
 -- What a step that fits is: what was stored fits, no step does not, and accounts, settings and amount are in range.
 -- Assumes nothing.
 use mathlib.Core.Path.{_≡_, refl, sym, ap, subst, _∙_}
-use mathlib.Core.Bool.{Bool, true, false, _&&_, cond}
+use mathlib.Core.Bool.{Bool, true, false, _&&_, _||_, cond}
 use mathlib.Core.List.{List}
 use Prim.Native.Nat.{ℕ, _+_, _≤_, _<_}
 use lib.Dec.{leb, ltb, eqb}
@@ -12,19 +12,36 @@ use borrow.Author.Tests.{ltb-true, leb-true, eqb-true, eq-eqb}
 use Rattle.shape.specs.Bytes.{every}
 use Rattle.shape.specs.Dates.{isTime}
 use Rattle.shape.specs.Fields.{identifierMost, isIdentifier}
-use Rattle.shape.specs.Stored.{identifierOf, allBytes, identifierText, storedText, isUetr, uetrOf}
+use Rattle.shape.specs.Stored.{identifierOf, sameIdentifier, allBytes, identifierText, storedText, isUetr, uetrOf}
 use Rattle.shape.specs.declared.stored.Identifier.{Identifier}
 use Rattle.shape.specs.declared.stored.Text.{Text}
 use Rattle.shape.proofs.Tests.{and-left, and-right}
 use Rattle.shape.proofs.ReadBack.{identifier-back, identifier-same, text-short, text-front, stored-version, stored-variant}
-use Rattle.slip.specs.Meaning.{kindNumber}
+use Rattle.slip.specs.Meaning.{kindNumber, statusNumber}
+use Rattle.slip.specs.declared.Status.the-variants.{Waits}
 use Rattle.directory.specs.Directory.{codeMost}
 use Rattle.layout.specs.declared.rows.Settings.{Settings}
 use Rattle.layout.specs.declared.rows.Step.{Step}
 use Rattle.layout.specs.Seat.{accounts}
 use Rattle.journal.specs.Results.{resultFits}
-use Rattle.journal.specs.Steps.{setKind, amountMost, settingsFit, sameSettings, isStored, isStoredUetr, noMessage, noMovement, noSet}
-use Rattle.journal.specs.Steps.{setFits, isKind, moves, between, movementFits, referenceFits, messageFits, stepFits, noStep}
+use Rattle.journal.specs.Steps.{setKind, amountMost, settingsFit, sameSettings, noIdentifier, isStored, isStoredUetr, noUetr}
+use Rattle.journal.specs.Steps.{noMessage, noMovement, noSet}
+use Rattle.journal.specs.Steps.{
+  setFits,
+  isKind,
+  moves,
+  isWaiting,
+  between,
+  isMovement,
+  movementFits,
+  uetrFits,
+  referenceFits,
+  receiverFits,
+  answersFits,
+  messageFits,
+  stepFits,
+  noStep,
+}
 
 -- the text that is handed on: at most 35 of its bytes are the identifier's, they stand in front, and are as many as it says
 module _ (t : Text) (x : Identifier) (e : t ≡ storedText x) where
@@ -93,15 +110,67 @@ pub set-given : (x : Step) → stepFits x ≡ true → isKind setKind x ≡ true
 unfolding setFits
 set-given x e k = and-right (noMessage x && noMovement x && ltb (x .account) accounts && settingsFit (x .old)) (settingsFit (x .given)) (set-fits x e k)
 
--- the movement of a message that fits
-movement-fits : (x : Step) → stepFits x ≡ true → isKind setKind x ≡ false → movementFits x ≡ true
+-- of the ten tests of a message that fits: its result, its movement, and which step it answers
+record Parts (x : Step) : Type 0 where
+  result : resultFits (x .kind) (x .status) (x .check) ≡ true
+  movement : movementFits x ≡ true
+  answers : answersFits x ≡ true
+
+first-holds : (a b c d e f : Bool) → (a && b && c && d && e && f) ≡ true → a ≡ true
+first-holds true b c d e f h = refl
+first-holds false b c d e f h = h
+
+message-parts : (x : Step) → stepFits x ≡ true → isKind setKind x ≡ false → Parts x
 unfolding stepFits messageFits
-movement-fits x e k =
-    let front =
-    resultFits (x .kind) (x .status) (x .check) && leb (x .sender) codeMost
-    && isStored (x .id) && isStoredUetr (x .uetr) && isTime (x .created) && referenceFits x in
+message-parts x e k =
+    let result = resultFits (x .kind) (x .status) (x .check) in
+    let front = result && leb (x .sender) codeMost && isStored (x .id) && uetrFits x && isTime (x .created) && referenceFits x in
     let h = subst (λ (t : Bool). cond t (setFits x) (messageFits x) ≡ true) k e in
-    and-right front (movementFits x) (and-left (front && movementFits x) (noSet x) h)
+    let four = and-left (front && movementFits x && receiverFits x && answersFits x) (noSet x) h in
+    let three = and-left (front && movementFits x && receiverFits x) (answersFits x) four in
+    let two = and-left (front && movementFits x) (receiverFits x) three in
+    record {
+      result =
+          first-holds result (leb (x .sender) codeMost) (isStored (x .id)) (uetrFits x) (isTime (x .created)) (referenceFits x)
+          (and-left front (movementFits x) two);
+      movement = and-right front (movementFits x) two;
+      answers = and-right (front && movementFits x && receiverFits x) (answersFits x) four;
+    }
+
+pub message-result : (x : Step) → stepFits x ≡ true → isKind setKind x ≡ false → resultFits (x .kind) (x .status) (x .check) ≡ true
+message-result x e k = message-parts x e k .result
+
+movement-fits : (x : Step) → stepFits x ≡ true → isKind setKind x ≡ false → movementFits x ≡ true
+movement-fits x e k = message-parts x e k .movement
+
+pub message-answers : (x : Step) → stepFits x ≡ true → isKind setKind x ≡ false → answersFits x ≡ true
+message-answers x e k = message-parts x e k .answers
+
+-- a set answers nothing
+pub set-answers : (x : Step) → stepFits x ≡ true → isKind setKind x ≡ true → x .answers ≡ 0
+unfolding noMessage
+set-answers x e k =
+    let none = and-left (noMessage x) (noMovement x) (and-left (noMessage x && noMovement x) (ltb (x .account) accounts)
+    (and-left (noMessage x && noMovement x && ltb (x .account) accounts) (settingsFit (x .old)) (set-before x e k))) in
+    eqb-true (x .answers) 0
+    (and-right
+    (eqb (x .status) 0 && eqb (x .check) 0 && eqb (x .sender) 0 && sameIdentifier (x .id) noIdentifier && noUetr (x .uetr)
+    && eqb (x .created) 0 && sameIdentifier (x .reference) noIdentifier && eqb (x .receiver) 0)
+    (eqb (x .answers) 0) none)
+
+-- a step that waits is no set
+pub waiting-message : (x : Step) → isWaiting x ≡ true → isKind setKind x ≡ false
+unfolding isWaiting kindNumber
+waiting-message x e = rw (eqb-true (x .kind) 1 (and-left (eqb (x .kind) 1) (eqb (x .status) (statusNumber Waits)) e))
+
+-- what a waiting transfer is to move is a movement
+pub waiting-movement : (x : Step) → stepFits x ≡ true → isWaiting x ≡ true → isMovement x ≡ true
+unfolding movementFits
+waiting-movement x e w = chosen (moves x) (movement-fits x e (waiting-message x w))
+  where
+    chosen : (t : Bool) → cond (t || isWaiting x) (isMovement x) (noMovement x) ≡ true → isMovement x ≡ true
+    chosen true h = h
+    chosen false h = rw w at h
 
 -- three of five tests that all hold
 three-hold : (least most debit credit rest : Bool) → (least && most && debit && credit && rest) ≡ true → (debit ≡ true) × (credit ≡ true) × (most ≡ true)
@@ -113,10 +182,9 @@ three-hold least most debit credit rest e =
 -- where a step moves money, the amount and both accounts are in range
 pub moved-within : (x : Step) → stepFits x ≡ true → isKind setKind x ≡ false → moves x ≡ true
     → (x .debit < accounts) × (x .credit < accounts) × (x .amount ≤ amountMost)
-unfolding movementFits
+unfolding movementFits isMovement
 moved-within x e k n =
-    let within : Bool = leb 1 (x .amount) && leb (x .amount) amountMost && ltb (x .debit) accounts && ltb (x .credit) accounts && between x in
-    let h : within ≡ true = subst (λ (t : Bool). cond t within (noMovement x) ≡ true) n (movement-fits x e k) in
+    let h : isMovement x ≡ true = subst (λ (t : Bool). cond (t || isWaiting x) (isMovement x) (noMovement x) ≡ true) n (movement-fits x e k) in
     let p = three-hold (leb 1 (x .amount)) (leb (x .amount) amountMost) (ltb (x .debit) accounts) (ltb (x .credit) accounts) (between x) h in
     (ltb-true (x .debit) accounts (p .0), ltb-true (x .credit) accounts (p .1), leb-true (x .amount) amountMost (p .2))
 

@@ -2,14 +2,17 @@
 -- height of its numbers follow from the seat before. What each possible step keeps is kept by all of them. And one turn of a loop over them.
 -- Assumes nothing.
 use mathlib.Core.Path.{_≡_, refl, sym, ap, subst, _∙_}
+use mathlib.Core.Logic.{⊎-elim}
 use mathlib.Core.Bool.{Bool, true, false, cond}
 use mathlib.Core.List.{List, [], _∷_, _++_}
 use mathlib.Core.Option.{none, some}
 use Prim.Native.Nat.{ℕ, zero, suc, _+_, _-_, _≤_, _<_}
 use native.Mathlib.Omega.{arith}
+use native.Mathlib.Nat.{eq-or-lt-of-le}
 use native.Mathlib.Numerals.{add-one}
 use lib.ListN.{length}
 use Rattle.shape.specs.Bytes.{every}
+use Rattle.shape.proofs.Tests.{and-left, and-right}
 use Rattle.slip.specs.Meaning.{steps}
 use Rattle.layout.specs.declared.rows.Head.{Head}
 use Rattle.layout.specs.declared.rows.Step.{Step}
@@ -192,7 +195,16 @@ worked-fits [] s t w = refl
 worked-fits (x ∷ xs) s t w =
     rw (possible-fits x s (first-possible x xs s t w)) (worked-fits xs (stepped x s) t (rest-worked x xs s t w))
 
--- the steps that are left: the k-th and those behind it
+-- what is tested of n steps from the k-th on holds of each of them
+pub each-step : (f : Step → Bool) (s : List ℕ) (k n : ℕ) → every f (stepsFrom s k n) ≡ true → (j : ℕ) → k ≤ j → j < k + n → f (stepOf s j) ≡ true
+unfolding stepsFrom
+each-step f s k zero t j a b = absurd (omega arith)
+each-step f s k (suc n) t j a b =
+    ⊎-elim (λ (e : k ≡ j). subst (λ (i : ℕ). f (stepOf s i) ≡ true) e (and-left (f (stepOf s k)) (every f (stepsFrom s (suc k) n)) t))
+    (λ (l : k < j). each-step f s (suc k) n (and-right (f (stepOf s k)) (every f (stepsFrom s (suc k) n)) t) j l (omega arith))
+    (eq-or-lt-of-le a)
+
+-- the steps that are left: the k-th and those after it
 pub steps-left : (s : List ℕ) (k n : ℕ) → k < n → stepsFrom s k (n - k) ≡ stepOf s k ∷ stepsFrom s (k + 1) (n - (k + 1))
 unfolding stepsFrom
 steps-left s k n h =

@@ -1,5 +1,6 @@
 pub mod Results
 pub mod Steps
+pub mod Answers
 pub mod Working
 pub mod Low
 pub mod Limits

@@ -11,6 +11,7 @@ use Rattle.layout.specs.declared.rows.Account.{Account}
 use Rattle.layout.specs.declared.rows.Step.{Step}
 use Rattle.layout.specs.Seat.{headOf, withHead, accountOf, withAccount, stepOf, withStep}
 use Rattle.journal.specs.Steps.{setKind, isKind, moves, sameSettings, stepFits, noStep}
+use Rattle.journal.specs.Answers.{answerable}
 
 -- an account with other settings; with money taken out, which counts as turnover, or put in; or both, where the balance stays
 abbrev pub settled : Settings → Account → Account
@@ -76,15 +77,16 @@ lastStep s = stepOf s (headOf s .steps - 1)
 unfoldable pub backed : List ℕ → List ℕ
 backed s = withHead (withStep (uneffect (lastStep s) s) (headOf s .steps - 1) noStep) (counting (headOf s .steps - 1) (headOf s))
 
--- a step is possible in a seat: a set's old settings are those of that moment, and no balance falls below zero. A balance is looked at behind the
+-- a step is covered in a seat: a set's old settings are those of that moment, and no balance falls below zero. A balance is looked at after the
 -- step, not between a debit and its credit
 unfoldable pub covered : Step → List ℕ → Bool
 covered x s =
     cond (isKind setKind x) (sameSettings (x .old) (accountOf s (x .account) .settings))
     (not (moves x) || eqb (x .debit) (x .credit) || leb (x .amount) (accountOf s (x .debit) .balance))
 
+-- a step is possible in a seat
 unfoldable pub possible : Step → List ℕ → Bool
-possible x s = stepFits x && covered x s
+possible x s = stepFits x && covered x s && answerable x s
 
 -- the steps of a journal, n of them from the k-th on
 unfoldable pub stepsFrom : List ℕ → ℕ → ℕ → List Step

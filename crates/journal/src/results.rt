@@ -1,16 +1,13 @@
-// How a step ended: what its row may hold, and what has become of it. The rules stand in `specs/Results.antt`, one definition for each function.
+// How a step ended: what its row may hold. The rules stand in `specs/Results.antt`, one definition for each function.
 use crate::steps::CAMT_050;
+use crate::steps::PACS_002;
 use crate::steps::PACS_008;
 use crate::steps::PACS_028;
-use layout::step;
 use table::Kind;
 use table::in_order;
+use table::is_rejecting;
 ghost use mathlib.Core.Path.{_≡_};
-ghost use Prim.Native.Nat.{_<_};
-ghost use lib.ListN.{length};
-ghost use Rattle.slip.specs.Meaning.{steps};
-ghost use Rattle.layout.specs.Seat.{seatLong};
-ghost use Rattle.journal.specs.Results.{failsBy, endsAs, resultFits, resultNow};
+ghost use Rattle.journal.specs.Results.{failsBy, endsAs, sentAs, toldAs, resultFits};
 
 // How a message ended, by its number.
 const PDNG: u64 = 0;
@@ -18,6 +15,8 @@ const PDNG: u64 = 0;
 pub const ACCC: u64 = 1;
 
 const RJCT: u64 = 2;
+
+pub const WAITS: u64 = 3;
 
 // A status and a check, by their numbers on a slip.
 pub struct Outcome {
@@ -32,7 +31,7 @@ fn can_fail(kind: Kind, check: u64) -> bool
     in_order(kind, check) & (check != 1) & (check != 2)
 }
 
-// Whether a transfer of a kind can have ended so.
+// Whether a camt.050 or an answer can have ended so.
 fn can_end(kind: Kind, status: u64, check: u64) -> bool
     ensures { λ r. ⌜ r ≡ endsAs kind status check ⌝ }
 {
@@ -45,15 +44,44 @@ fn can_end(kind: Kind, status: u64, check: u64) -> bool
     can_fail(kind, check)
 }
 
+// Whether the submit of a pacs.008 can have ended so.
+fn can_be_sent(status: u64, check: u64) -> bool
+    ensures { λ r. ⌜ r ≡ sentAs status check ⌝ }
+{
+    if status == WAITS {
+        return check == 0;
+    }
+    if status != RJCT {
+        return false;
+    }
+    can_fail(Kind::Pacs008, check)
+}
+
+// Whether this can be told of a pacs.008 that waits no more.
+fn can_be_told(status: u64, check: u64) -> bool
+    ensures { λ r. ⌜ r ≡ toldAs status check ⌝ }
+{
+    if status == ACCC {
+        return check == 0;
+    }
+    if status != RJCT {
+        return false;
+    }
+    can_fail(Kind::Pacs008, check) | is_rejecting(check)
+}
+
 // Whether a row of a kind may hold this.
 pub fn result_fits(kind: u64, status: u64, check: u64) -> bool
     ensures { λ r. ⌜ r ≡ resultFits kind status check ⌝ }
 {
     if kind == PACS_008 {
-        return can_end(Kind::Pacs008, status, check);
+        return can_be_sent(status, check);
     }
     if kind == CAMT_050 {
         return can_end(Kind::Camt050, status, check);
+    }
+    if kind == PACS_002 {
+        return can_end(Kind::Pacs002, status, check);
     }
     if kind != PACS_028 {
         return false;
@@ -61,17 +89,5 @@ pub fn result_fits(kind: u64, status: u64, check: u64) -> bool
     if status == PDNG {
         return can_fail(Kind::Pacs028, check);
     }
-    can_end(Kind::Pacs008, status, check)
-}
-
-// What has become of the step at a place of the journal.
-pub fn result_now(s: &[u64], k: usize) -> Outcome
-    requires { ⌜ (length (now s) ≡ seatLong) × (k < steps) ⌝ }
-    ensures { λ r. ⌜ r ≡ resultNow (now (s .entry)) k ⌝ }
-{
-    let x = step(s, k);
-    Outcome {
-        status: x.status,
-        check: x.check,
-    }
+    can_be_told(status, check)
 }

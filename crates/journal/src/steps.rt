@@ -1,5 +1,6 @@
 // What a step of the journal can be, by itself. The rules stand in `specs/Steps.antt`, one definition for each function.
 use crate::results::ACCC;
+use crate::results::WAITS;
 use crate::results::result_fits;
 use directory::CODE_MOST;
 use layout::ACCOUNTS;
@@ -13,12 +14,17 @@ use shape::stored::Uetr;
 use shape::stored::identifier_of;
 use shape::stored::same_identifier;
 use shape::stored::text_of;
+use slip::STEPS;
+use table::is_rejecting;
 ghost use mathlib.Core.Path.{_≡_};
 ghost use mathlib.Core.Bool.{_&&_};
 ghost use Prim.Native.Nat.{ℕ};
 ghost use lib.Dec.{leb, eqb};
 ghost use Rattle.shape.specs.Bytes.{every};
-ghost use Rattle.journal.specs.Steps.{sevenMost, settingsFit, sameSettings, noSettings, noIdentifier, isStored, isStoredUetr, noMessage, noMovement, noSet, setFits, moves, between, movementFits, referenceFits, messageFits, stepFits, noStep};
+ghost use Rattle.journal.specs.Steps.{sevenMost, settingsFit, sameSettings, noSettings, noIdentifier, isStored, isStoredUetr, noUetr};
+ghost use Rattle.journal.specs.Steps.{noMessage, noMovement, noSet, setFits, moves, isWaiting, closes};
+ghost use Rattle.journal.specs.Steps.{between, isMovement, movementFits, uetrFits, referenceFits, receiverFits, answersFits};
+ghost use Rattle.journal.specs.Steps.{messageFits, stepFits, noStep};
 
 // The kinds of steps by number: messages as on their slips, a set by a number of the journal's own.
 pub const PACS_008: u64 = 1;
@@ -27,7 +33,9 @@ pub const CAMT_050: u64 = 2;
 
 pub const PACS_028: u64 = 3;
 
-pub const SET: u64 = 4;
+pub const PACS_002: u64 = 4;
+
+pub const SET: u64 = 5;
 
 // The highest opening sum, LTK and LPO, and the highest amount, in kopecks.
 pub const SUM_MOST: u64 = 1000000000000000;
@@ -79,6 +87,8 @@ pub fn no_step() -> Step
         account: 0,
         old: no_settings(),
         given: no_settings(),
+        receiver: 0,
+        answers: 0,
     }
 }
 
@@ -146,6 +156,12 @@ fn is_stored_uetr(x: Uetr) -> bool
     ((x.high >> 12) % 16 == 4) & (x.low >> 62 == 2)
 }
 
+fn no_uetr(x: Uetr) -> bool
+    ensures { λ r. ⌜ r ≡ noUetr x ⌝ }
+{
+    (x.high == 0) & (x.low == 0)
+}
+
 fn no_message(x: Step) -> bool
     ensures { λ r. ⌜ r ≡ noMessage x ⌝ }
 {
@@ -153,10 +169,11 @@ fn no_message(x: Step) -> bool
         & (x.check == 0)
         & (x.sender == 0)
         & same_identifier(x.id, no_identifier())
-        & (x.uetr.high == 0)
-        & (x.uetr.low == 0)
+        & no_uetr(x.uetr)
         & (x.created == 0)
         & same_identifier(x.reference, no_identifier())
+        & (x.receiver == 0)
+        & (x.answers == 0)
 }
 
 fn no_movement(x: Step) -> bool
@@ -181,11 +198,25 @@ fn set_fits(x: Step) -> bool
         & settings_fit(x.given)
 }
 
-// Whether a step moves money: it is a transfer that was carried out.
+// Whether a step moves money: it is a camt.050 or an answer that was carried out.
 pub fn moves(x: Step) -> bool
     ensures { λ r. ⌜ r ≡ moves x ⌝ }
 {
-    (x.status == ACCC) & ((x.kind == PACS_008) | (x.kind == CAMT_050))
+    (x.status == ACCC) & ((x.kind == CAMT_050) | (x.kind == PACS_002))
+}
+
+// Whether a step is a pacs.008 that waits for its answer, or did.
+pub fn is_waiting(x: Step) -> bool
+    ensures { λ r. ⌜ r ≡ isWaiting x ⌝ }
+{
+    (x.kind == PACS_008) & (x.status == WAITS)
+}
+
+// Whether a step is an answer that settles or rejects the transfer that it names.
+fn closes(x: Step) -> bool
+    ensures { λ r. ⌜ r ≡ closes x ⌝ }
+{
+    (x.kind == PACS_002) & ((x.check == 0) | is_rejecting(x.check))
 }
 
 // Whether the accounts of a movement are such as its kind moves between.
@@ -198,26 +229,59 @@ fn is_between(x: Step) -> bool
     (x.debit % 2 == 1) & (x.credit % 2 == 1)
 }
 
+fn is_movement(x: Step) -> bool
+    ensures { λ r. ⌜ r ≡ isMovement x ⌝ }
+{
+    (1 <= x.amount)
+        & (x.amount <= AMOUNT_MOST)
+        & (x.debit < ACCOUNTS as u64)
+        & (x.credit < ACCOUNTS as u64)
+        & is_between(x)
+}
+
 fn movement_fits(x: Step) -> bool
     ensures { λ r. ⌜ r ≡ movementFits x ⌝ }
 {
-    if moves(x) {
-        return (1 <= x.amount)
-            & (x.amount <= AMOUNT_MOST)
-            & (x.debit < ACCOUNTS as u64)
-            & (x.credit < ACCOUNTS as u64)
-            & is_between(x);
+    if moves(x) | is_waiting(x) {
+        return is_movement(x);
     }
     no_movement(x)
+}
+
+fn uetr_fits(x: Step) -> bool
+    ensures { λ r. ⌜ r ≡ uetrFits x ⌝ }
+{
+    if x.kind == PACS_002 {
+        return no_uetr(x.uetr);
+    }
+    is_stored_uetr(x.uetr)
 }
 
 fn reference_fits(x: Step) -> bool
     ensures { λ r. ⌜ r ≡ referenceFits x ⌝ }
 {
-    if x.kind == CAMT_050 {
+    if (x.kind == CAMT_050) | (x.kind == PACS_002) {
         return same_identifier(x.reference, no_identifier());
     }
     is_stored(x.reference)
+}
+
+fn receiver_fits(x: Step) -> bool
+    ensures { λ r. ⌜ r ≡ receiverFits x ⌝ }
+{
+    if is_waiting(x) {
+        return x.receiver <= CODE_MOST;
+    }
+    x.receiver == 0
+}
+
+fn answers_fits(x: Step) -> bool
+    ensures { λ r. ⌜ r ≡ answersFits x ⌝ }
+{
+    if closes(x) {
+        return (1 <= x.answers) & (x.answers <= STEPS);
+    }
+    x.answers == 0
 }
 
 fn message_fits(x: Step) -> bool
@@ -226,10 +290,12 @@ fn message_fits(x: Step) -> bool
     result_fits(x.kind, x.status, x.check)
         & (x.sender <= CODE_MOST)
         & is_stored(x.id)
-        & is_stored_uetr(x.uetr)
+        & uetr_fits(x)
         & is_time(x.created)
         & reference_fits(x)
         & movement_fits(x)
+        & receiver_fits(x)
+        & answers_fits(x)
         & no_set(x)
 }
 

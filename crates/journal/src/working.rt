@@ -1,4 +1,5 @@
 // What a step does to a seat, when it is possible there, and taking the last step back. The rules stand in `specs/Working.antt`.
+use crate::answers::is_answerable;
 use crate::steps::SET;
 use crate::steps::moves;
 use crate::steps::no_step;
@@ -232,11 +233,14 @@ fn is_covered(s: &[u64], x: Step) -> bool
 
 // Whether a step is possible in a seat.
 pub fn is_possible(s: &[u64], x: Step) -> bool
-    requires { ⌜ length (now s) ≡ seatLong ⌝ }
+    requires { ⌜ (length (now s) ≡ seatLong) × (headOf (now s) .steps ≤ steps) ⌝ }
     ensures { λ r. ⌜ r ≡ possible x (now (s .entry)) ⌝ }
 {
     if !step_fits(x) {
         return false;
     }
-    is_covered(s, x)
+    if !is_covered(s, x) {
+        return false;
+    }
+    is_answerable(s, x)
 }

@@ -8,7 +8,7 @@ use Prim.Native.Nat.{ℕ, _≤_}
 use lib.ListN.{length}
 use Rattle.shape.specs.declared.value.Value.the-variants.{Of}
 use Rattle.table.specs.declared.Kind.{Kind}
-use Rattle.table.specs.declared.Kind.the-variants.{Pacs008, Camt050, Pacs028}
+use Rattle.table.specs.declared.Kind.the-variants.{Pacs008, Camt050, Pacs028, Pacs002}
 use Rattle.message.specs.declared.Message.{Message}
 use Rattle.message.specs.declared.Answer.{Answer}
 use Rattle.message.specs.declared.Answer.the-variants.{Good}
@@ -27,6 +27,7 @@ unfolding ownerCode debitOwner ownerUsed
 debit-found dir m Pacs008 = refl
 debit-found dir m Camt050 = refl
 debit-found dir m Pacs028 = refl
+debit-found dir m Pacs002 = refl
 
 credit-found : (dir : List Participant) (m : Message) (kind : Kind)
     → foundAs dir (ownerCode kind (foundAs dir (m .instructed)) (Of (m .credit .code))) ≡ creditOwner dir m kind
@@ -34,6 +35,7 @@ unfolding ownerCode creditOwner ownerUsed
 credit-found dir m Pacs008 = refl
 credit-found dir m Camt050 = refl
 credit-found dir m Pacs028 = refl
+credit-found dir m Pacs002 = refl
 
 -- of a message
 pub looked-by : (dir : List Participant) (sender : ℕ) (m : Message) → lookedFor dir sender (askedBy m) ≡ lookedUp dir sender m

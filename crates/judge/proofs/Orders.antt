@@ -1,13 +1,14 @@
--- The first failing check of an order, looked for one place after the other; and no check fails whose number is none of 1 to 34.
+-- The first failing check of an order, looked for one place after the other; and no check fails whose number is none of 1 to 37.
 -- Assumes nothing.
 use mathlib.Core.Path.{_≡_, refl}
 use mathlib.Core.Bool.{Bool, true, false}
-use mathlib.Core.List.{List, [], _∷_}
+use mathlib.Core.List.{List}
 use Prim.Native.Nat.{ℕ, zero, suc, _+_, _≤_, _<_}
 use native.Mathlib.Omega.{arith}
 use native.Mathlib.Numerals.{add-one}
 use lib.ListN.{length, getD, drop, drop-of-length-le, List·getD-eq-default}
 use lib.Seq.{drop-cons}
+use Rattle.table.specs.Checks.{checksMost}
 use Rattle.judge.specs.declared.case.Case.{Case}
 use Rattle.judge.specs.Verdict.{rowsOf, fails, firstFailing}
 
@@ -33,7 +34,10 @@ beyond : (n k : ℕ) → NoneTo n (suc k) → n ≤ k
 beyond zero k h = omega arith
 beyond (suc n) k h = let below : n ≤ k = beyond n k (h .0) in let other : suc k ≡ suc n → ⊥ = h .1 in omega arith
 
-pub outside : (c : Case) (s : List ℕ) (k : ℕ) → NoneTo 34 k → fails c s k ≡ false
+pub outside : (c : Case) (s : List ℕ) (k : ℕ) → NoneTo checksMost k → fails c s k ≡ false
 unfolding fails rowsOf
 outside c s zero h = refl
-outside c s (suc k) h = let above : 34 ≤ k = beyond 34 k h in let past : 35 ≤ suc k = omega arith in List·getD-eq-default (rowsOf c s) false {n = suc k} past
+outside c s (suc k) h =
+    let above : checksMost ≤ k = beyond checksMost k h in
+    let past : suc checksMost ≤ suc k = omega arith in
+    List·getD-eq-default (rowsOf c s) false {n = suc k} past

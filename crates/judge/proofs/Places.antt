@@ -2,24 +2,21 @@
 -- fit directory is at most 16 records, since no more were counted.
 -- Assumes nothing.
 use mathlib.Core.Path.{_≡_, refl}
-use mathlib.Core.Bool.{true, _&&_}
+use mathlib.Core.Bool.{true}
 use mathlib.Core.List.{List}
 use Prim.Native.Nat.{ℕ, _≤_, _<_}
 use native.Mathlib.Omega.{arith}
-use lib.Dec.{leb}
 use lib.ListN.{length, length-take}
-use borrow.Author.Tests.{leb-true, lt-ltb}
-use Rattle.shape.specs.Bytes.{every}
+use borrow.Author.Tests.{lt-ltb}
 use Rattle.shape.specs.declared.value.Value.{Value}
 use Rattle.shape.specs.declared.value.Value.the-variants.{Of, None}
-use Rattle.shape.proofs.Tests.{and-left, and-right}
 use Rattle.table.specs.declared.Kind.{Kind}
-use Rattle.table.specs.declared.Kind.the-variants.{Pacs008, Camt050, Pacs028}
+use Rattle.table.specs.declared.Kind.the-variants.{Pacs008, Camt050, Pacs028, Pacs002}
 use Rattle.directory.specs.declared.Participant.{Participant}
 use Rattle.directory.specs.declared.Gathered.{Gathered}
 use Rattle.directory.specs.declared.Found.{Found}
 use Rattle.directory.specs.declared.Found.the-variants.{At, Missing}
-use Rattle.directory.specs.Directory.{codeMost, names, ascending, found, foundAs, accountIn, ownerUsed}
+use Rattle.directory.specs.Directory.{found, foundAs, accountIn, ownerUsed}
 use Rattle.directory.specs.Gathering.{recordsIn, fitGathered}
 use Rattle.directory.proofs.Finds.{found-code}
 use Rattle.directory.proofs.Gathers.{few-gathered}
@@ -47,12 +44,14 @@ unfolding debitOwner
 debit-owner-fits dir m Pacs008 few = owner-fits dir (m .instructing) few
 debit-owner-fits dir m Camt050 few = found-fits dir (m .debit .code) few
 debit-owner-fits dir m Pacs028 few = refl
+debit-owner-fits dir m Pacs002 few = refl
 
 pub credit-owner-fits : (dir : List Participant) (m : Message) (kind : Kind) → length dir ≤ 16 → placeFits (creditOwner dir m kind) ≡ true
 unfolding creditOwner
 credit-owner-fits dir m Pacs008 few = owner-fits dir (m .instructed) few
 credit-owner-fits dir m Camt050 few = found-fits dir (m .credit .code) few
 credit-owner-fits dir m Pacs028 few = refl
+credit-owner-fits dir m Pacs002 few = refl
 
 -- of what was gathered no more is there than was counted
 pub records-few : (g : Gathered) → fitGathered g ≡ true → length (recordsIn g) ≤ 16

@@ -10,14 +10,10 @@ use Rattle.judge.proofs.case.movement_of.Kinds as movement-of-kinds
 use Rattle.judge.proofs.case.movement_of.Reads as movement-of-reads
 use Rattle.judge.proofs.order.fails.Kinds as fails-kinds
 use Rattle.judge.proofs.order.fails.Reads as fails-reads
+use Rattle.judge.proofs.outcome.step_by.Kinds as step-by-kinds
+use Rattle.judge.proofs.outcome.step_by.Reads as step-by-reads
 use Rattle.judge.proofs.order.first_failing.Kinds as first-failing-kinds
 use Rattle.judge.proofs.order.first_failing.Reads as first-failing-reads
-use Rattle.judge.proofs.money.movement_in.Kinds as movement-in-kinds
-use Rattle.judge.proofs.money.movement_in.Reads as movement-in-reads
-use Rattle.judge.proofs.outcome.end_of.Kinds as end-of-kinds
-use Rattle.judge.proofs.outcome.end_of.Reads as end-of-reads
-use Rattle.judge.proofs.outcome.step_of.Kinds as step-of-kinds
-use Rattle.judge.proofs.outcome.step_of.Reads as step-of-reads
 use Rattle.judge.proofs.records.asked_by.Kinds as asked-by-kinds
 use Rattle.judge.proofs.records.asked_by.Reads as asked-by-reads
 use Rattle.judge.proofs.records.asked_in.Kinds as asked-in-kinds
@@ -41,12 +37,6 @@ fails κs a x y e f = by-equation
 pub first-failing : Settled _ first-failing-kinds.ps first-failing-kinds.r first-failing-reads.Post
 first-failing κs a x y e f = by-equation
 
-pub end-of : Settled _ end-of-kinds.ps end-of-kinds.r end-of-reads.Post
-end-of κs a x y e f = by-equation
-
-pub step-of : Settled _ step-of-kinds.ps step-of-kinds.r step-of-reads.Post
-step-of κs a x y e f = by-equation
-
 pub asked-by : Settled _ asked-by-kinds.ps asked-by-kinds.r asked-by-reads.Post
 asked-by κs a x y e f = by-equation
 
@@ -60,5 +50,5 @@ look-among κs a x y e f = by-equation
 pub look-up : SettledWalked look-up-contract.ended (λ M. look-up-contract.clauses) Looked (λ κs x e. x)
 look-up M 𝓤 H A mem run κs a g x y e f = one-clause 𝓤 by-equation
 
-pub movement-in : Settled _ movement-in-kinds.ps movement-in-kinds.r movement-in-reads.Post
-movement-in κs a x y e f = by-equation
+pub step-by : Settled _ step-by-kinds.ps step-by-kinds.r step-by-reads.Post
+step-by κs a x y e f = by-equation

@@ -8,7 +8,7 @@ use lib.Dec.{eqb}
 use borrow.Author.Tests.{eqb-true, eq-eqb, ne-eqb}
 use Rattle.shape.proofs.Tests.{or-cases, or-left, or-right}
 use Rattle.table.specs.declared.Kind.{Kind}
-use Rattle.table.specs.declared.Kind.the-variants.{Pacs008, Camt050, Pacs028}
+use Rattle.table.specs.declared.Kind.the-variants.{Pacs008, Camt050, Pacs028, Pacs002}
 use Rattle.table.specs.Checks.{orderOf, isIn, runs}
 use Rattle.journal.specs.Results.{failsBy}
 use Rattle.journal.proofs.ResultLaws.{fails-in-order}
@@ -21,6 +21,7 @@ unfolding orderOf
 zero-nowhere Pacs008 = refl
 zero-nowhere Camt050 = refl
 zero-nowhere Pacs028 = refl
+zero-nowhere Pacs002 = refl
 
 -- both are false where their disjunction is
 pub or-neither : (t u : Bool) → (t || u) ≡ false → (t ≡ false) × (u ≡ false)

@@ -4,10 +4,8 @@ use mathlib.Core.Bool.{true}
 use mathlib.Core.List.{List}
 use mathlib.Core.Path.{_≡_}
 use Prim.Native.Nat.{ℕ, _≤_}
-use Rattle.shape.specs.declared.value.Value.{Value}
-use Rattle.shape.specs.declared.value.Value.the-variants.{Of, None}
 use Rattle.table.specs.declared.Kind.{Kind}
-use Rattle.table.specs.declared.Kind.the-variants.{Pacs008, Camt050, Pacs028}
+use Rattle.table.specs.declared.Kind.the-variants.{Pacs008, Camt050, Pacs028, Pacs002}
 use Rattle.message.specs.declared.Message.{Message}
 use Rattle.message.specs.declared.Answer.the-variants.{Good}
 use Rattle.message.specs.Received.{receivedOf}
@@ -22,22 +20,25 @@ use Rattle.judge.specs.declared.case.Movement.{Movement}
 use Rattle.judge.specs.Values.{orZero}
 
 -- whose accounts a message moves money between: camt.050 names them by code; a pacs.008's are those of InstgAgt and of InstdAgt, a direct
--- branch's its head's. A pacs.028 moves none
+-- branch's its head's. A pacs.028 moves none, and a pacs.002 goes by what the transfer keeps that it answers, whichever directory comes
 unfoldable pub debitOwner : List Participant → Message → Kind → Found
 debitOwner dir m Pacs008 = ownerUsed dir (m .instructing)
 debitOwner dir m Camt050 = found dir (m .debit .code)
 debitOwner dir m Pacs028 = Missing
+debitOwner dir m Pacs002 = Missing
 
 unfoldable pub creditOwner : List Participant → Message → Kind → Found
 creditOwner dir m Pacs008 = ownerUsed dir (m .instructed)
 creditOwner dir m Camt050 = found dir (m .credit .code)
 creditOwner dir m Pacs028 = Missing
+creditOwner dir m Pacs002 = Missing
 
 -- which of an owner's two accounts: a camt.050 says it by a digit, a pacs.008 means account 2
 unfoldable pub accountOn : Kind → ℕ → ℕ
 accountOn Pacs008 digit = 2
 accountOn Camt050 digit = digit
 accountOn Pacs028 digit = 0
+accountOn Pacs002 digit = 0
 
 -- the debited and the credited account by their numbers in the seat, each of which may be missing, and the amount
 unfoldable pub movementOf : Message → Found → Found → Movement

@@ -5,7 +5,7 @@ use Prim.Native.Nat.{ℕ}
 use Rattle.shape.specs.declared.value.Value.{Value}
 use Rattle.shape.specs.declared.value.Value.the-variants.{Of, None}
 use Rattle.table.specs.declared.Kind.{Kind}
-use Rattle.table.specs.declared.Kind.the-variants.{Pacs008, Camt050, Pacs028}
+use Rattle.table.specs.declared.Kind.the-variants.{Pacs008, Camt050, Pacs028, Pacs002}
 use Rattle.message.specs.declared.Message.{Message}
 use Rattle.message.specs.declared.Answer.{Answer}
 use Rattle.message.specs.declared.Answer.the-variants.{IllFormed, BadField, Good}
@@ -44,11 +44,12 @@ askedIn (Good m) = askedBy m
 askedIn (IllFormed place) = nothingAsked
 askedIn (BadField number) = nothingAsked
 
--- the code of the owner of an account: a pacs.008 means the account that its agent uses, a camt.050 names the code, a pacs.028 has none
+-- the code of the owner of an account: a pacs.008 means the account that its agent uses, a camt.050 names the code, the others have none
 unfoldable pub ownerCode : Kind → Found → Value → Value
 ownerCode Pacs008 agent named = accountIn agent
 ownerCode Camt050 agent named = named
 ownerCode Pacs028 agent named = None
+ownerCode Pacs002 agent named = None
 
 -- of the debited account, by InstgAgt; of the credited one, by InstdAgt
 abbrev pub debitCode : Asked → Found → Value

@@ -1,5 +1,5 @@
--- The 34 rows of the check table, in its order and words: document 01, "The checks". Each says when its check fails, of any case and any seat,
--- whatever the other rows say. A check on a missing record, account or step fails only where its row says so.
+-- The 37 rows of the check table, in its order and words: document 01, "The checks", and request 9 of document 02. Each says when its check fails,
+-- of any case and any seat, whatever the other rows say. A check on a missing record, account or step fails only where its row says so.
 -- Who an agent is goes through `directory` alone, what stands in earlier steps and accounts through `journal` alone.
 use mathlib.Core.Bool.{Bool, true, false, not, _&&_, _||_, cond}
 use mathlib.Core.List.{List}
@@ -15,12 +15,14 @@ use Rattle.shape.specs.declared.field.System.{System}
 use Rattle.shape.specs.declared.field.System.the-variants.{Sep, Asp, Neither}
 use Rattle.remainder.specs.declared.Mod97.{Mod97}
 use Rattle.remainder.specs.declared.Mod97.the-variants as left
-use Rattle.directory.specs.declared.Found.{Found}
 use Rattle.directory.specs.Directory.{isListed, isInstant, ownerFound, bankFound, underSep, underAsp, headIn, bankIn}
 use Rattle.layout.specs.declared.rows.Account.{Account}
-use Rattle.layout.specs.declared.rows.Step.{Step}
 use Rattle.layout.specs.Seat.{accounts, accountOf}
+use Rattle.table.specs.declared.Kind.{Kind}
+use Rattle.table.specs.declared.Kind.the-variants.{Pacs008, Camt050, Pacs028, Pacs002}
 use Rattle.message.specs.declared.Message.{Message}
+use Rattle.message.specs.declared.Reply.{Reply}
+use Rattle.message.specs.declared.Reply.the-variants.{NoReply, Accepts, Declines, Refuses}
 use Rattle.message.specs.Good.{isGiven}
 use Rattle.journal.specs.declared.traces.Trace.the-variants as trace
 use Rattle.journal.specs.declared.traces.Earlier.{Earlier}
@@ -71,7 +73,7 @@ notFromSender c = not (agree (c .message .instructing) (Of (c .sender)))
 unfoldable pub originalBad : Case → Bool
 originalBad c = not (agree (c .message .original .code) (Of (c .sender)))
 
--- 10: no pacs.008 step has it
+-- 10: no pacs.008 step has it, or one that waits has it
 unfoldable pub originalUnknown : Case → List ℕ → Bool
 originalUnknown c s = not (isKnown (c .message .original .stored) s)
 
@@ -124,9 +126,31 @@ creditorNotHryvnia c = not (eqb (c .message .credit .currency) hryvnia)
 unfoldable pub debtorNotHryvnia : Case → Bool
 debtorNotHryvnia c = not (eqb (c .message .debit .currency) hryvnia)
 
--- the movement that 20 to 24 run on in a seat: that of the message, by the directory
+-- the transfer that a pacs.002 answers: the first that waits for this sender's answer and has OrgnlMsgId
+unfoldable pub dueTo : Case → List ℕ → Earlier
+dueTo c s = earliest (trace.Due (c .message .original .stored) (c .sender)) s
+
+-- GrpSts is ACCP
+unfoldable pub accepts : Reply → Bool
+accepts NoReply = false
+accepts Accepts = true
+accepts Declines = false
+accepts Refuses = false
+
+-- what a waiting transfer is to move: its amount between the accounts that it keeps
+unfoldable pub keptIn : Earlier → Movement
+keptIn (earlier.Of k x) = record { debit = Of (x .debit); credit = Of (x .credit); amount = x .amount }
+keptIn earlier.None = record { debit = None; credit = None; amount = 0 }
+
+-- the movement that a message is about in a seat, which 20 to 24 run on: its own by the directory; of an accepting answer that of the transfer
+unfoldable pub movementFor : Kind → Case → List ℕ → Movement
+movementFor Pacs008 c s = c .movement
+movementFor Camt050 c s = c .movement
+movementFor Pacs028 c s = c .movement
+movementFor Pacs002 c s = cond (accepts (c .message .reply)) (keptIn (dueTo c s)) (c .movement)
+
 unfoldable pub movementIn : Case → List ℕ → Movement
-movementIn c s = c .movement
+movementIn c s = movementFor (c .message .kind) c s
 
 -- 20 to 24 are over the accounts of a seat, a debited one or none, a credited one or none, and an amount: what the account shows, and nothing
 -- where there is none
@@ -216,3 +240,27 @@ isOne left.NoIban = false
 
 unfoldable pub ibanWrong : Case → Bool
 ibanWrong c = not (isOne (c .message .iban))
+
+-- 35: no waiting transfer to this sender has OrgnlMsgId
+unfoldable pub nothingDue : Case → List ℕ → Bool
+nothingDue c s = not (isThere (dueTo c s))
+
+-- 36: GrpSts is RJCT without TxSts, a technical refusal
+unfoldable pub declines : Reply → Bool
+declines NoReply = false
+declines Accepts = false
+declines Declines = true
+declines Refuses = false
+
+unfoldable pub transferDeclined : Case → Bool
+transferDeclined c = declines (c .message .reply)
+
+-- 37: GrpSts is RJCT with TxSts, the client is not credited
+unfoldable pub refuses : Reply → Bool
+refuses NoReply = false
+refuses Accepts = false
+refuses Declines = false
+refuses Refuses = true
+
+unfoldable pub creditRefused : Case → Bool
+creditRefused c = refuses (c .message .reply)

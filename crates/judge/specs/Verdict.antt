@@ -1,20 +1,20 @@
--- The check by which a message fails, and what becomes of the message: document 01, "The checks", "The slip" and what a step stores.
-use mathlib.Core.Bool.{Bool, false, _&&_, cond}
+-- The check by which a message fails, and what becomes of the message: document 01, "The checks", "The slip" and what a step stores, and request 9
+-- of document 02.
+use mathlib.Core.Bool.{Bool, false, _||_, cond}
 use mathlib.Core.List.{List, [], _∷_}
-use Prim.Native.Nat.{ℕ}
+use Prim.Native.Nat.{ℕ, suc}
 use lib.Dec.{eqb}
 use lib.ListN.{getD}
-use Rattle.shape.specs.declared.value.Value.{Value}
 use Rattle.table.specs.declared.Kind.{Kind}
-use Rattle.table.specs.declared.Kind.the-variants.{Pacs008, Camt050, Pacs028}
-use Rattle.table.specs.Checks.{orderOf}
-use Rattle.slip.specs.declared.Status.the-variants.{Pdng, Accc, Rjct}
+use Rattle.table.specs.declared.Kind.the-variants.{Pacs008, Camt050, Pacs028, Pacs002}
+use Rattle.table.specs.Checks.{rejecting, orderOf, isIn}
+use Rattle.slip.specs.declared.Status.the-variants.{Pdng, Accc, Rjct, Waits}
 use Rattle.slip.specs.Meaning.{kindNumber, statusNumber}
 use Rattle.layout.specs.declared.rows.Step.{Step}
 use Rattle.journal.specs.declared.traces.Earlier.{Earlier}
 use Rattle.journal.specs.declared.traces.Earlier.the-variants.{Of, None}
 use Rattle.journal.specs.declared.results.Outcome.{Outcome}
-use Rattle.journal.specs.Results.{resultNow}
+use Rattle.journal.specs.Answers.{resultNow}
 use Rattle.journal.specs.Steps.{noSettings}
 use Rattle.judge.specs.declared.case.Case.{Case}
 use Rattle.judge.specs.declared.case.Movement.{Movement}
@@ -54,7 +54,11 @@ use Rattle.judge.specs.Rows.{
   previousNotServing,
   instructingNotServing,
   ibanWrong,
+  nothingDue,
+  transferDeclined,
+  creditRefused,
   askedAfter,
+  dueTo,
   movementIn,
 }
 
@@ -96,6 +100,9 @@ rowsOf c s =
     ∷ previousNotServing c
     ∷ instructingNotServing c
     ∷ ibanWrong c
+    ∷ nothingDue c s
+    ∷ transferDeclined c
+    ∷ creditRefused c
     ∷ []
 
 -- the check with a number fails
@@ -111,9 +118,13 @@ firstFailing failing (k ∷ order) = cond (failing k) k (firstFailing failing or
 unfoldable pub verdict : Case → List ℕ → ℕ
 verdict c s = firstFailing (fails c s) (orderOf (c .message .kind))
 
--- how a transfer ends: ACCC with 0, or RJCT with the check
+-- how a camt.050 or an answer ends: ACCC with 0, or RJCT with the check
 unfoldable pub transferred : ℕ → Outcome
 transferred check = cond (eqb check 0) (record { status = statusNumber Accc; check = 0 }) (record { status = statusNumber Rjct; check = check })
+
+-- how the submit of a pacs.008 ends: it waits, or RJCT with the check
+unfoldable pub sent : ℕ → Outcome
+sent check = cond (eqb check 0) (record { status = statusNumber Waits; check = 0 }) (record { status = statusNumber Rjct; check = check })
 
 -- what a pacs.028 tells of the payment that it asks after: what has become of it
 unfoldable pub toldOf : Earlier → List ℕ → Outcome
@@ -125,24 +136,45 @@ unfoldable pub answered : ℕ → Outcome → Outcome
 answered check told = cond (eqb check 0) told (record { status = statusNumber Pdng; check = check })
 
 unfoldable pub endOf : Kind → ℕ → Outcome → Outcome
-endOf Pacs008 check told = transferred check
+endOf Pacs008 check told = sent check
 endOf Camt050 check told = transferred check
 endOf Pacs028 check told = answered check told
+endOf Pacs002 check told = transferred check
 
 -- what becomes of a message
 unfoldable pub outcome : Case → List ℕ → Outcome
 outcome c s = endOf (c .message .kind) (verdict c s) (toldOf (askedAfter c s) s)
 
--- a transfer that is carried out
+-- money is moved: a camt.050 or an answer is carried out
 unfoldable pub carried : Kind → Outcome → Bool
-carried Pacs008 o = eqb (o .status) (statusNumber Accc)
+carried Pacs008 o = false
 carried Camt050 o = eqb (o .status) (statusNumber Accc)
 carried Pacs028 o = false
+carried Pacs002 o = eqb (o .status) (statusNumber Accc)
 
--- the step that a message is: what document 01 says that a step stores, with the movement exactly where a transfer is carried out
-unfoldable pub stepMade : Case → Movement → Outcome → Step
-stepMade c move o =
-    let moved : ℕ → ℕ = λ n. cond (carried (c .message .kind) o) n 0 in
+-- a transfer waits for its answer
+unfoldable pub awaits : Kind → Outcome → Bool
+awaits Pacs008 o = eqb (o .status) (statusNumber Waits)
+awaits Camt050 o = false
+awaits Pacs028 o = false
+awaits Pacs002 o = false
+
+-- the number of the step that is closed: by an answer that settles the transfer, or fails by a check that rejects it
+unfoldable pub stepNumber : Earlier → ℕ
+stepNumber (Of k x) = suc k
+stepNumber None = 0
+
+unfoldable pub closedBy : Kind → ℕ → Earlier → ℕ
+closedBy Pacs008 check due = 0
+closedBy Camt050 check due = 0
+closedBy Pacs028 check due = 0
+closedBy Pacs002 check due = cond (eqb check 0 || isIn check rejecting) (stepNumber due) 0
+
+-- the step that a message is: what document 01 says that a step stores, with a movement exactly where money is moved or a transfer waits, who is to
+-- answer exactly where it waits, and the step that it answers
+unfoldable pub stepMade : Case → Movement → ℕ → Outcome → Step
+stepMade c move answers o =
+    let kept : ℕ → ℕ = λ n. cond (carried (c .message .kind) o || awaits (c .message .kind) o) n 0 in
     record {
       kind = kindNumber (c .message .kind);
       status = o .status;
@@ -152,14 +184,21 @@ stepMade c move o =
       uetr = c .message .uetr;
       created = orZero (c .message .created);
       reference = c .message .reference;
-      debit = moved (orZero (move .debit));
-      credit = moved (orZero (move .credit));
-      amount = moved (move .amount);
+      debit = kept (orZero (move .debit));
+      credit = kept (orZero (move .credit));
+      amount = kept (move .amount);
       account = 0;
       old = noSettings;
       given = noSettings;
+      receiver = cond (awaits (c .message .kind) o) (orZero (c .message .instructed)) 0;
+      answers = answers;
     }
 
--- and in its seat
+-- the step of a message that fails by this check, or by none, in its seat
+unfoldable pub stepBy : Case → List ℕ → ℕ → Step
+stepBy c s check =
+    stepMade c (movementIn c s) (closedBy (c .message .kind) check (dueTo c s)) (endOf (c .message .kind) check (toldOf (askedAfter c s) s))
+
+-- the step of a judged message
 unfoldable pub judgedStep : Case → List ℕ → Step
-judgedStep c s = stepMade c (movementIn c s) (outcome c s)
+judgedStep c s = stepBy c s (verdict c s)

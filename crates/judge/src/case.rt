@@ -57,6 +57,7 @@ fn account_on(kind: Kind, digit: u64) -> u64
         Kind::Pacs008 => 2,
         Kind::Camt050 => digit,
         Kind::Pacs028 => 0,
+        Kind::Pacs002 => 0,
     }
 }
 

@@ -1,5 +1,5 @@
-// The judge: each of the 34 checks, the first that fails in the order of a message's kind, and what becomes of the message. Document 01,
-// "The checks".
+// The judge: each of the 37 checks, the first that fails in the order of a message's kind, and what becomes of the message. Document 01,
+// "The checks", and request 9 of document 02.
 // It knows a seat's accounts and journal through `seat` and `journal`, participants through `directory`, and changes nothing. What a check looks
 // at stands in `specs/Case.antt`, what a message asks of the directory in `specs/Records.antt`, the rows in `specs/Rows.antt`, the verdict and the
 // step in `specs/Verdict.antt`.
@@ -12,6 +12,7 @@ mod order;
 mod outcome;
 mod records;
 mod repeats;
+mod reply;
 mod routing;
 mod sender;
 mod values;
@@ -22,11 +23,9 @@ pub use case::Movement;
 pub use case::case_from;
 pub use case::case_of;
 pub use case::movement_of;
-pub use money::movement_in;
 pub use order::fails;
 pub use order::first_failing;
-pub use outcome::end_of;
-pub use outcome::step_of;
+pub use outcome::step_by;
 pub use records::Asked;
 pub use records::asked_by;
 pub use records::asked_in;

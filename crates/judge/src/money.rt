@@ -2,6 +2,9 @@
 // definition for each function.
 use crate::case::Case;
 use crate::case::Movement;
+use crate::repeats::due_to;
+use crate::reply::accepts;
+use journal::Earlier;
 use journal::available_below;
 use journal::blocked_into;
 use journal::blocked_out;
@@ -11,16 +14,53 @@ use layout::ACCOUNTS;
 use layout::account;
 use layout::rows::Account;
 use shape::value::Value;
+use table::Kind;
 ghost use mathlib.Core.Path.{_≡_};
+ghost use Prim.Native.Nat.{_≤_};
 ghost use lib.ListN.{length};
-ghost use Rattle.layout.specs.Seat.{seatLong};
-ghost use Rattle.judge.specs.Rows.{movementIn, accountAt, debitBlocked, creditBlocked, moneyShort, limitPassed, limitZero};
+ghost use Rattle.slip.specs.Meaning.{steps};
+ghost use Rattle.layout.specs.Seat.{seatLong, headOf};
+ghost use Rattle.judge.specs.Rows.{keptIn, movementIn, accountAt, debitBlocked, creditBlocked, moneyShort, limitPassed, limitZero};
 
-// The movement that checks 20 to 24 run on in a seat.
+// What a waiting transfer is to move.
+fn kept_in(transfer: Earlier) -> Movement
+    ensures { λ r. ⌜ r ≡ keptIn transfer ⌝ }
+{
+    match transfer {
+        Earlier::Of(_place, x) => Movement {
+            debit: Value::Of(x.debit),
+            credit: Value::Of(x.credit),
+            amount: x.amount,
+        },
+        Earlier::None => Movement {
+            debit: Value::None,
+            credit: Value::None,
+            amount: 0,
+        },
+    }
+}
+
+// The movement that a message is about in a seat, which checks 20 to 24 run on.
 pub fn movement_in(c: Case, s: &[u64]) -> Movement
+    requires { ⌜ (length (now s) ≡ seatLong) × (headOf (now s) .steps ≤ steps) ⌝ }
     ensures { λ r. ⌜ r ≡ movementIn c (now (s .entry)) ⌝ }
 {
-    c.movement
+    let m = c.message;
+    let kind = m.kind;
+    let reply = m.reply;
+    let own = c.movement;
+    match kind {
+        Kind::Pacs008 => own,
+        Kind::Camt050 => own,
+        Kind::Pacs028 => own,
+        Kind::Pacs002 => {
+            if accepts(reply) {
+                kept_in(due_to(c, s))
+            } else {
+                own
+            }
+        }
+    }
 }
 
 // An account, or that there is none.

@@ -18,9 +18,12 @@ use crate::money::limit_zero;
 use crate::money::money_short;
 use crate::money::movement_in;
 use crate::repeats::identifier_repeated;
+use crate::repeats::nothing_due;
 use crate::repeats::original_differs;
 use crate::repeats::original_unknown;
 use crate::repeats::uetr_repeated;
+use crate::reply::credit_refused;
+use crate::reply::transfer_declined;
 use crate::routing::creditor_elsewhere;
 use crate::routing::creditor_no_provider;
 use crate::routing::creditor_not_instant;
@@ -84,6 +87,9 @@ pub fn fails(c: Case, s: &[u64], number: u64) -> bool
         32 => previous_not_serving(c),
         33 => instructing_not_serving(c),
         34 => iban_wrong(c),
+        35 => nothing_due(c, s),
+        36 => transfer_declined(c),
+        37 => credit_refused(c),
         _ => false,
     }
 }

@@ -1,11 +1,14 @@
 // What becomes of a message, and the step that it is. The rules stand in `specs/Verdict.antt`.
 use crate::case::Case;
 use crate::case::Movement;
+use crate::money::movement_in;
 use crate::repeats::asked_after;
+use crate::repeats::due_to;
 use crate::values::or_zero;
 use journal::ACCC;
 use journal::Earlier;
 use journal::Outcome;
+use journal::WAITS;
 use journal::no_settings;
 use journal::result_now;
 use layout::rows::Step;
@@ -13,6 +16,7 @@ use slip::Status;
 use slip::kind_number;
 use slip::status_number;
 use table::Kind;
+use table::is_rejecting;
 ghost use mathlib.Core.Path.{_≡_};
 ghost use mathlib.Core.Bool.{true, cond};
 ghost use Prim.Native.Nat.{_≤_};
@@ -20,10 +24,10 @@ ghost use lib.ListN.{length};
 ghost use Rattle.slip.specs.Meaning.{steps};
 ghost use Rattle.layout.specs.Seat.{seatLong, headOf};
 ghost use Rattle.journal.specs.Traces.{placeFits};
-ghost use Rattle.judge.specs.Rows.{askedAfter};
-ghost use Rattle.judge.specs.Verdict.{transferred, toldOf, answered, endOf, carried, stepMade};
+ghost use Rattle.judge.specs.Rows.{askedAfter, dueTo};
+ghost use Rattle.judge.specs.Verdict.{transferred, sent, toldOf, answered, endOf, carried, awaits, stepNumber, closedBy, stepMade, stepBy};
 
-// How a transfer ends.
+// How a camt.050 or an answer ends.
 fn transferred(check: u64) -> Outcome
     ensures { λ r. ⌜ r ≡ transferred check ⌝ }
 {
@@ -39,9 +43,25 @@ fn transferred(check: u64) -> Outcome
     }
 }
 
+// How the submit of a pacs.008 ends.
+fn sent(check: u64) -> Outcome
+    ensures { λ r. ⌜ r ≡ sent check ⌝ }
+{
+    if check == 0 {
+        return Outcome {
+            status: status_number(Status::Waits),
+            check: 0,
+        };
+    }
+    Outcome {
+        status: status_number(Status::Rjct),
+        check,
+    }
+}
+
 // What has become of the payment that is asked after.
 fn told_of(payment: Earlier, s: &[u64]) -> Outcome
-    requires { ⌜ (length (now s) ≡ seatLong) × (placeFits payment ≡ true) ⌝ }
+    requires { ⌜ (length (now s) ≡ seatLong) × (headOf (now s) .steps ≤ steps) × (placeFits payment ≡ true) ⌝ }
     ensures { λ r. ⌜ r ≡ toldOf payment (now (s .entry)) ⌝ }
 {
     match payment {
@@ -67,43 +87,89 @@ fn answered(check: u64, told: Outcome) -> Outcome
 }
 
 // What becomes of a message that fails by this check, or by none.
-pub fn end_of(c: Case, s: &[u64], check: u64) -> Outcome
+fn end_of(c: Case, s: &[u64], check: u64) -> Outcome
     requires { ⌜ (length (now s) ≡ seatLong) × (headOf (now s) .steps ≤ steps) ⌝ }
     ensures { λ r. ⌜ r ≡ endOf (c .message .kind) check (toldOf (askedAfter c (now (s .entry))) (now (s .entry))) ⌝ }
 {
     let m = c.message;
     let kind = m.kind;
     match kind {
-        Kind::Pacs008 => transferred(check),
+        Kind::Pacs008 => sent(check),
         Kind::Camt050 => transferred(check),
         Kind::Pacs028 => answered(check, told_of(asked_after(c, s), s)),
+        Kind::Pacs002 => transferred(check),
     }
 }
 
-// Whether a transfer is carried out.
+// Whether money is moved.
 fn is_carried(kind: Kind, o: Outcome) -> bool
     ensures { λ r. ⌜ r ≡ carried kind o ⌝ }
 {
     match kind {
-        Kind::Pacs008 => o.status == ACCC,
+        Kind::Pacs008 => false,
         Kind::Camt050 => o.status == ACCC,
         Kind::Pacs028 => false,
+        Kind::Pacs002 => o.status == ACCC,
     }
 }
 
-// A number where a transfer is carried out, 0 where it is not.
-fn moved(carried: bool, n: u64) -> u64
-    ensures { λ r. ⌜ r ≡ cond carried n 0 ⌝ }
+// Whether a transfer waits for its answer.
+fn awaits(kind: Kind, o: Outcome) -> bool
+    ensures { λ r. ⌜ r ≡ awaits kind o ⌝ }
 {
-    if carried {
+    match kind {
+        Kind::Pacs008 => o.status == WAITS,
+        Kind::Camt050 => false,
+        Kind::Pacs028 => false,
+        Kind::Pacs002 => false,
+    }
+}
+
+// The number of a step that was found, 0 for none.
+fn step_number(transfer: Earlier) -> u64
+    requires { ⌜ placeFits transfer ≡ true ⌝ }
+    ensures { λ r. ⌜ r ≡ stepNumber transfer ⌝ }
+{
+    match transfer {
+        Earlier::Of(place, _step) => place as u64 + 1,
+        Earlier::None => 0,
+    }
+}
+
+// The number of the step that a message closes, where it fails by this check, or by none.
+fn closed_by(c: Case, s: &[u64], check: u64) -> u64
+    requires { ⌜ (length (now s) ≡ seatLong) × (headOf (now s) .steps ≤ steps) ⌝ }
+    ensures { λ r. ⌜ r ≡ closedBy (c .message .kind) check (dueTo c (now (s .entry))) ⌝ }
+{
+    let m = c.message;
+    let kind = m.kind;
+    match kind {
+        Kind::Pacs008 => 0,
+        Kind::Camt050 => 0,
+        Kind::Pacs028 => 0,
+        Kind::Pacs002 => {
+            if (check == 0) | is_rejecting(check) {
+                step_number(due_to(c, s))
+            } else {
+                0
+            }
+        }
+    }
+}
+
+// A number where it is kept, else 0.
+fn kept(keeps: bool, n: u64) -> u64
+    ensures { λ r. ⌜ r ≡ cond keeps n 0 ⌝ }
+{
+    if keeps {
         return n;
     }
     0
 }
 
-// The step that a message is, with what it moves where it is carried out.
-pub fn step_of(c: Case, movement: Movement, o: Outcome) -> Step
-    ensures { λ r. ⌜ r ≡ stepMade c movement o ⌝ }
+// The step that a message is, by its movement, the step that it answers and its end.
+fn step_made(c: Case, movement: Movement, answers: u64, o: Outcome) -> Step
+    ensures { λ r. ⌜ r ≡ stepMade c movement answers o ⌝ }
 {
     let m = c.message;
     let kind = m.kind;
@@ -111,9 +177,11 @@ pub fn step_of(c: Case, movement: Movement, o: Outcome) -> Step
     let uetr = m.uetr;
     let created = m.created;
     let reference = m.reference;
+    let instructed = m.instructed;
     let debit = movement.debit;
     let credit = movement.credit;
-    let carried = is_carried(kind, o);
+    let waiting = awaits(kind, o);
+    let keeps = is_carried(kind, o) | waiting;
     Step {
         kind: kind_number(kind),
         status: o.status,
@@ -123,11 +191,26 @@ pub fn step_of(c: Case, movement: Movement, o: Outcome) -> Step
         uetr,
         created: or_zero(created),
         reference,
-        debit: moved(carried, or_zero(debit)),
-        credit: moved(carried, or_zero(credit)),
-        amount: moved(carried, movement.amount),
+        debit: kept(keeps, or_zero(debit)),
+        credit: kept(keeps, or_zero(credit)),
+        amount: kept(keeps, movement.amount),
         account: 0,
         old: no_settings(),
         given: no_settings(),
+        receiver: kept(waiting, or_zero(instructed)),
+        answers,
     }
+}
+
+// The step of a message that fails by this check, or by none, in its seat.
+pub fn step_by(c: Case, s: &[u64], check: u64) -> Step
+    requires { ⌜ (length (now s) ≡ seatLong) × (headOf (now s) .steps ≤ steps) ⌝ }
+    ensures { λ r. ⌜ r ≡ stepBy c (now (s .entry)) check ⌝ }
+{
+    step_made(
+        c,
+        movement_in(c, s),
+        closed_by(c, s, check),
+        end_of(c, s, check),
+    )
 }

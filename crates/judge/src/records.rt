@@ -84,6 +84,7 @@ fn owner_code(kind: Kind, agent: Found, named: Value) -> Value
         Kind::Pacs008 => account_in(agent),
         Kind::Camt050 => named,
         Kind::Pacs028 => Value::None,
+        Kind::Pacs002 => Value::None,
     }
 }
 

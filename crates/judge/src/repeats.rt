@@ -1,4 +1,4 @@
-// Checks 6, 10, 11, 17: what stands in earlier steps. The rules stand in `specs/Rows.antt`, one definition for each function.
+// Checks 6, 10, 11, 17, 35: what stands in earlier steps. The rules stand in `specs/Rows.antt`, one definition for each function.
 use crate::case::Case;
 use crate::values::agree;
 use journal::Earlier;
@@ -15,7 +15,7 @@ ghost use Prim.Native.Nat.{_≤_};
 ghost use lib.ListN.{length};
 ghost use Rattle.slip.specs.Meaning.{steps};
 ghost use Rattle.layout.specs.Seat.{seatLong, headOf};
-ghost use Rattle.judge.specs.Rows.{identifierRepeated, askedAfter, originalUnknown, differs, originalDiffers, uetrRepeated};
+ghost use Rattle.judge.specs.Rows.{identifierRepeated, askedAfter, originalUnknown, differs, originalDiffers, uetrRepeated, dueTo, nothingDue};
 
 pub fn identifier_repeated(c: Case, s: &[u64]) -> bool
     requires { ⌜ (length (now s) ≡ seatLong) × (headOf (now s) .steps ≤ steps) ⌝ }
@@ -70,4 +70,20 @@ pub fn uetr_repeated(c: Case, s: &[u64]) -> bool
 {
     let uetr = c.message.uetr;
     is_there(earliest(s, Trace::Transfer(uetr)))
+}
+
+// The transfer that a pacs.002 answers.
+pub fn due_to(c: Case, s: &[u64]) -> Earlier
+    requires { ⌜ (length (now s) ≡ seatLong) × (headOf (now s) .steps ≤ steps) ⌝ }
+    ensures { λ r. ⌜ r ≡ dueTo c (now (s .entry)) ⌝ }
+{
+    let id = c.message.original.stored;
+    earliest(s, Trace::Due(id, c.sender))
+}
+
+pub fn nothing_due(c: Case, s: &[u64]) -> bool
+    requires { ⌜ (length (now s) ≡ seatLong) × (headOf (now s) .steps ≤ steps) ⌝ }
+    ensures { λ r. ⌜ r ≡ nothingDue c (now (s .entry)) ⌝ }
+{
+    !is_there(due_to(c, s))
 }

@@ -2,14 +2,17 @@
 -- Assumes nothing.
 use mathlib.Core.Path.{_≡_, refl, sym, ap, subst, _∙_}
 use mathlib.Core.List.{List}
-use Prim.Native.Nat.{ℕ}
-use lib.ListN.{length, getD}
-use lib.Seq.{sets, getD-drop}
+use Prim.Native.Nat.{ℕ, _+_}
+use lib.Dec.{lit<}
+use lib.ListN.{length, getD, drop}
+use lib.Seq.{sets, getD-take, getD-drop}
 use Rattle.shape.proofs.Places.{bytes-whole}
 use Rattle.layout.specs.declared.rows.Head.{Head}
 use Rattle.layout.specs.declared.rows.Account.{Account}
 use Rattle.layout.specs.declared.rows.Step.{Step}
 use Rattle.layout.specs.Rows.{headLong, headRow, headIn, accountLong, accountRow, accountIn, stepLong, stepRow, stepIn}
+use Rattle.layout.specs.Parts.{part}
+use Rattle.layout.specs.Seat.{stepFrom, stepOf}
 
 -- how many numbers a row has
 pub head-length : (h : Head) → length (headRow h) ≡ headLong
@@ -62,9 +65,16 @@ pub step-places : (s : List ℕ) → record {
   account = getD s 20 0;
   old = record { out = getD s 21 0; into = getD s 22 0; ltk = getD s 23 0; lpo = getD s 24 0 };
   given = record { out = getD s 25 0; into = getD s 26 0; ltk = getD s 27 0; lpo = getD s 28 0 };
+  receiver = getD s 29 0;
+  answers = getD s 30 0;
 } ≡ stepIn s
 unfolding stepIn
 step-places s = simp getD-drop
+
+-- the step that a step answers, by its place in the seat
+pub answers-place : (s : List ℕ) (k : ℕ) → getD s (stepFrom k + 30) 0 ≡ stepOf s k .answers
+unfolding stepOf stepIn part
+answers-place s k = sym (getD-take stepLong (drop (stepFrom k) s) 30 0 (lit< tt) ∙ getD-drop (stepFrom k) s 30 0)
 
 -- numbers, as many as a row has, are the row that they are read as
 pub head-whole : (s : List ℕ) → length s ≡ headLong → headRow (headIn s) ≡ s

@@ -27,6 +27,8 @@ use Rattle.layout.proofs.put_account.Kinds as put-account-kinds
 use Rattle.layout.proofs.put_account.Reads as put-account-reads
 use Rattle.layout.proofs.step.Kinds as step-kinds
 use Rattle.layout.proofs.step.Reads as step-reads
+use Rattle.layout.proofs.step_answered.Kinds as step-answered-kinds
+use Rattle.layout.proofs.step_answered.Reads as step-answered-reads
 use Rattle.layout.proofs.put_step.Kinds as put-step-kinds
 use Rattle.layout.proofs.put_step.Reads as put-step-reads
 use Rattle.layout.proofs.seat_from.Kinds as seat-from-kinds
@@ -67,6 +69,9 @@ put-account κs a x y e f p q = (refl, by-equation p q)
 
 pub step : Settled _ step-kinds.ps step-kinds.r step-reads.Post
 step κs a x y e f = by-equation
+
+pub step-answered : Settled _ step-answered-kinds.ps step-answered-kinds.r step-answered-reads.Post
+step-answered κs a x y e f = by-equation
 
 pub put-step : SettledWith _ put-step-kinds.ps put-step-kinds.r put-step-reads.Post (List ℕ) (λ κs e. now (e .0))
 put-step κs a x y e f p q = (refl, by-equation p q)

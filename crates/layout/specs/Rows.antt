@@ -4,7 +4,6 @@ use mathlib.Core.List.{List, [], _∷_, _++_}
 use Prim.Native.Nat.{ℕ}
 use lib.ListN.{getD, drop}
 use Rattle.shape.specs.declared.stored.Identifier.{Identifier}
-use Rattle.shape.specs.declared.stored.Uetr.{Uetr}
 use Rattle.layout.specs.declared.rows.Head.{Head}
 use Rattle.layout.specs.declared.rows.Settings.{Settings}
 use Rattle.layout.specs.declared.rows.Account.{Account}
@@ -18,7 +17,7 @@ abbrev pub accountLong : ℕ
 accountLong = 7
 
 abbrev pub stepLong : ℕ
-stepLong = 29
+stepLong = 31
 
 unfoldable pub headRow : Head → List ℕ
 headRow h = h .opening ∷ h .opened ∷ h .steps ∷ []
@@ -57,7 +56,8 @@ stepRow x =
     ++ (x .uetr .high ∷ x .uetr .low ∷ x .created
     ∷ (identifierRow (x .reference)
     ++ (x .debit ∷ x .credit ∷ x .amount
-    ∷ x .account ∷ (settingsRow (x .old) ++ settingsRow (x .given))))))
+    ∷ x .account ∷ (settingsRow (x .old) ++ (settingsRow (x .given)
+    ++ (x .receiver ∷ x .answers ∷ [])))))))
 
 unfoldable pub stepIn : List ℕ → Step
 stepIn s = record {
@@ -75,4 +75,6 @@ stepIn s = record {
   account = getD s 20 0;
   old = settingsFrom s 21;
   given = settingsFrom s 25;
+  receiver = getD s 29 0;
+  answers = getD s 30 0;
 }

@@ -4,6 +4,7 @@
 pub mod rows;
 
 use rows::ACCOUNT_LONG;
+use rows::ANSWERS_AT;
 use rows::Account;
 use rows::HEAD_LONG;
 use rows::Head;
@@ -74,6 +75,14 @@ pub fn step(s: &[u64], k: usize) -> Step
     let from = STEPS_FROM + STEP_LONG * k;
     let to = from + STEP_LONG;
     read_step(&s[from..to])
+}
+
+// Which step a step answers, by its number, or 0: one number of the row, since all of a journal are looked at.
+pub fn step_answered(s: &[u64], k: usize) -> u64
+    requires { ⌜ (length (now s) ≡ seatLong) × (k < steps) ⌝ }
+    ensures { λ r. ⌜ r ≡ stepOf (now (s .entry)) k .answers ⌝ }
+{
+    s[STEPS_FROM + STEP_LONG * k + ANSWERS_AT]
 }
 
 pub fn put_step(s: &mut [u64], k: usize, x: Step)

@@ -10,7 +10,10 @@ pub const HEAD_LONG: usize = 3;
 
 pub const ACCOUNT_LONG: usize = 7;
 
-pub const STEP_LONG: usize = 29;
+pub const STEP_LONG: usize = 31;
+
+// Where a step names the step that it answers.
+pub const ANSWERS_AT: usize = 30;
 
 // A seat's head: how often it was opened, whether it is open (0 or 1), and how many steps its journal has.
 pub struct Head {
@@ -37,7 +40,7 @@ pub struct Account {
 
 // A step of the journal. What its kind lacks is zero.
 pub struct Step {
-    // 1 pacs.008, 2 camt.050, 3 pacs.028, 4 a set; 0 for no step
+    // 1 pacs.008, 2 camt.050, 3 pacs.028, 4 pacs.002, 5 a set; 0 for no step
     pub kind: u64,
     pub status: u64,
     pub check: u64,
@@ -46,14 +49,18 @@ pub struct Step {
     pub uetr: Uetr,
     pub created: u64,
     pub reference: Identifier,
-    // The movement: two accounts of the seat by number, and kopecks.
+    // What was moved, or of a waiting transfer what is to be: two accounts of the seat by number, and kopecks.
     pub debit: u64,
     pub credit: u64,
     pub amount: u64,
-    // Of a set: the account by number, its settings before and behind.
+    // Of a set: the account by number, its settings before and after.
     pub account: u64,
     pub old: Settings,
     pub given: Settings,
+    // Of a pacs.008 that waits or waited: the code of the bank that is to answer.
+    pub receiver: u64,
+    // Of an answer that settles or rejects a transfer: the number of the transfer's step, from 1 on.
+    pub answers: u64,
 }
 
 pub fn read_head(s: &[u64]) -> Head
@@ -150,6 +157,8 @@ pub fn read_step(s: &[u64]) -> Step
             ltk: s[27],
             lpo: s[28],
         },
+        receiver: s[29],
+        answers: s[30],
     }
 }
 
@@ -186,4 +195,6 @@ pub fn write_step(s: &mut [u64], x: Step)
     s[26] = x.given.into;
     s[27] = x.given.ltk;
     s[28] = x.given.lpo;
+    s[29] = x.receiver;
+    s[30] = x.answers;
 }

@@ -1,4 +1,4 @@
-// What is seen of a seat: its balances before and behind a call, how many steps it has, and the kind of its last one.
+// What is seen of a seat: its balances before and after a call, how many steps it has, and its last one.
 use crate::show::put;
 use crate::show::put_code;
 use crate::show::put_next;
@@ -16,18 +16,34 @@ use layout::step;
 use slip::SEATS;
 use slip::STEPS;
 
+// What is seen of the last step: its kind by number, the bank that is to answer it, and the number of the step that it answers. What it lacks is
+// zero, and so is all of it where there is no step.
+pub struct LastStep {
+    pub kind: u64,
+    pub receiver: u64,
+    pub answers: u64,
+}
+
 // What is seen: zeros where there is no such seat.
 pub struct Sight {
     pub balances: [u64; ACCOUNTS],
     pub steps: u64,
-    pub kind: u64,
+    pub last: LastStep,
+}
+
+fn no_last_step() -> LastStep {
+    LastStep {
+        kind: 0,
+        receiver: 0,
+        answers: 0,
+    }
 }
 
 fn nothing() -> Sight {
     Sight {
         balances: [0u64; ACCOUNTS],
         steps: 0,
-        kind: 0,
+        last: no_last_step(),
     }
 }
 
@@ -45,19 +61,23 @@ fn balances_in(s: &[u64]) -> [u64; ACCOUNTS] {
     balances
 }
 
-// The kind of the last of so many steps, 0 where there is none.
-fn last_kind(s: &[u64], steps: u64) -> u64 {
+// The last of so many steps.
+fn last_of(s: &[u64], steps: u64) -> LastStep {
     if s.len() != SEAT_LONG {
-        return 0;
+        return no_last_step();
     }
     if steps == 0 {
-        return 0;
+        return no_last_step();
     }
     if STEPS < steps {
-        return 0;
+        return no_last_step();
     }
     let x = step(s, (steps - 1) as usize);
-    x.kind
+    LastStep {
+        kind: x.kind,
+        receiver: x.receiver,
+        answers: x.answers,
+    }
 }
 
 fn seen_in(s: &[u64]) -> Sight {
@@ -68,7 +88,7 @@ fn seen_in(s: &[u64]) -> Sight {
     Sight {
         balances: balances_in(s),
         steps: h.steps,
-        kind: last_kind(s, h.steps),
+        last: last_of(s, h.steps),
     }
 }
 

@@ -1,12 +1,10 @@
 // What happened by a call that was done.
 use crate::accounts::Sight;
 use crate::accounts::put_balances;
-use crate::accounts::put_changes;
-use crate::fields::put_kind;
-use crate::meanings::put_check;
-use crate::meanings::put_meaning;
+use crate::messages::put_said;
+use crate::messages::put_submitted;
+use crate::messages::put_taken_back;
 use crate::show::put;
-use crate::show::put_bytes;
 use crate::show::put_code;
 use crate::show::put_difference_right;
 use crate::show::put_next;
@@ -14,14 +12,11 @@ use crate::show::put_number;
 use crate::show::put_sum;
 use crate::show::put_sum_right;
 use centre::Answer;
-use centre::read_slip;
 use directory::Gathered;
 use layout::rows::Account;
 use script::Line;
 use script::Word;
 use slip::SLIP_LONG;
-use slip::Slip;
-use table::Kind;
 
 fn put_instant(instant: u64) {
     if instant == 1 {
@@ -111,30 +106,6 @@ fn put_set(line: Line, after: Sight) {
     put_number(after.steps);
 }
 
-// What a step was, by its number among the kinds of steps.
-fn put_step_kind(kind: u64) {
-    match kind {
-        1 => put(b"a pacs.008"),
-        2 => put(b"a camt.050"),
-        3 => put(b"a pacs.028"),
-        _ => put(b"a set"),
-    }
-}
-
-fn put_moved(g: Gathered, before: Sight, after: Sight) {
-    let were = before.balances;
-    let are = after.balances;
-    put_changes(g, were, are);
-}
-
-fn put_taken_back(g: Gathered, before: Sight, after: Sight) {
-    put(b"step ");
-    put_number(before.steps);
-    put(b" is taken back; it was ");
-    put_step_kind(before.kind);
-    put_moved(g, before, after);
-}
-
 // An LPO at the right of the column of sums.
 fn put_limit_right(lpo: u64) {
     if lpo == 0 {
@@ -185,98 +156,6 @@ fn put_account(line: Line, a: Account) {
 fn put_read(line: Line, answer: Answer) {
     match answer {
         Answer::Holds(account) => put_account(line, account),
-        _ => {}
-    }
-}
-
-// A slip's kind by its number.
-fn kind_of(number: u64) -> Kind {
-    match number {
-        1 => Kind::Pacs008,
-        2 => Kind::Camt050,
-        _ => Kind::Pacs028,
-    }
-}
-
-fn put_status(status: u64) {
-    match status {
-        0 => put(b"PDNG"),
-        1 => put(b"ACCC"),
-        _ => put(b"RJCT"),
-    }
-}
-
-// Whose codes stand beside the check of a slip: a pacs.028 that is not pending tells of a pacs.008.
-fn told_of(s: Slip) -> Kind {
-    let kind = kind_of(s.kind);
-    if (s.kind == 3) & (s.status != 0) {
-        return Kind::Pacs008;
-    }
-    kind
-}
-
-// How a message ended, with its check and what that means.
-fn put_end(s: Slip) {
-    let kind = kind_of(s.kind);
-    put_kind(kind);
-    put(b": ");
-    if (s.kind == 3) & (s.status != 0) {
-        put(b"the pacs.008 asked after ended with ");
-    }
-    put_status(s.status);
-    if s.check == 0 {
-        return;
-    }
-    let told = told_of(s);
-    put(b" by ");
-    put_check(told, s.check);
-    put_next();
-    put_meaning(s.check);
-}
-
-fn put_slip(s: Slip) {
-    put_end(s);
-    put_next();
-    put(b"seat ");
-    put_number(s.seat);
-    put(b", opening number ");
-    put_number(s.opening);
-    put(b", step ");
-    put_number(s.step);
-}
-
-fn put_said(answer: Answer) {
-    match answer {
-        Answer::Says(slip) => put_slip(slip),
-        _ => {}
-    }
-}
-
-// Whether a slip says that money was moved.
-fn is_moved(s: Slip) -> bool {
-    (s.status == 1) & (s.kind != 3)
-}
-
-fn put_message(s: Slip, bytes: [u8; SLIP_LONG], g: Gathered, before: Sight, after: Sight) {
-    put_end(s);
-    if is_moved(s) {
-        put(b", carried out");
-    }
-    put_next();
-    put(b"step ");
-    put_number(s.step);
-    put(b", slip");
-    put_bytes(bytes);
-    if is_moved(s) {
-        put_moved(g, before, after);
-    }
-}
-
-// What became of a message, read off its slip.
-fn put_submitted(bytes: [u8; SLIP_LONG], g: Gathered, before: Sight, after: Sight) {
-    let reading = read_slip(&bytes);
-    match reading {
-        Answer::Says(s) => put_message(s, bytes, g, before, after),
         _ => {}
     }
 }

@@ -26,8 +26,8 @@ fn put_call(word: Word) {
 pub fn put_expected(word: Word) {
     put(b"not understood; expected: ");
     match word {
-        Word::Room => put(b"room, and nothing behind it"),
-        Word::Nobody => put(b"nobody, and nothing behind it"),
+        Word::Room => put(b"room, and nothing after it"),
+        Word::Nobody => put(b"nobody, and nothing after it"),
         Word::Owner => put(b"owner CODE instant, or ordinary"),
         Word::Direct => put(b"direct CODE HEAD instant, or ordinary"),
         Word::Indirect => put(b"indirect CODE HEAD instant, or ordinary"),

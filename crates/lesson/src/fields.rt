@@ -1,4 +1,5 @@
-// The kind of a message and the fields of each kind, for a refusal by 8. The paths are those of document 01, "Fields".
+// The kind of a message and the fields of each kind, for a refusal by 8. The paths are those of document 01, "Fields", and of
+// request 9 of document 02.
 use crate::show::part;
 use crate::show::put;
 use crate::show::put_number;
@@ -14,17 +15,24 @@ const CAMT_050_FIELDS: usize = 6;
 
 const PACS_028_FIELDS: usize = 8;
 
+const PACS_002_FIELDS: usize = 5;
+
+// TxSts of a pacs.002, which its GrpSts can rule out.
+const TX_STS: usize = 5;
+
 // Where the fields of a kind begin among all, and how many all are.
 const CAMT_050_FROM: usize = PACS_008_FIELDS;
 
 const PACS_028_FROM: usize = CAMT_050_FROM + CAMT_050_FIELDS;
 
-const FIELDS: usize = PACS_028_FROM + PACS_028_FIELDS;
+const PACS_002_FROM: usize = PACS_028_FROM + PACS_028_FIELDS;
+
+const FIELDS: usize = PACS_002_FROM + PACS_002_FIELDS;
 
 // How many bytes the row of a field has.
 const PATH_WIDE: usize = 57;
 
-// The fields of pacs.008, of camt.050 and of pacs.028, in their order, blanks behind.
+// The fields of pacs.008, of camt.050, of pacs.028 and of pacs.002, in their order, with blanks after them.
 const PATHS: [[u8; PATH_WIDE]; FIELDS] = [
     *b"GrpHdr/MsgId                                             ",
     *b"GrpHdr/CreDtTm                                           ",
@@ -54,10 +62,15 @@ const PATHS: [[u8; PATH_WIDE]; FIELDS] = [
     *b"TxInf/OrgnlGrpInf/OrgnlCreDtTm                           ",
     *b"TxInf/OrgnlUETR                                          ",
     *b"TxInf/OrgnlEndToEndId                                    ",
+    *b"GrpHdr/MsgId                                             ",
+    *b"GrpHdr/CreDtTm                                           ",
+    *b"OrgnlGrpInfAndSts/OrgnlMsgId                             ",
+    *b"OrgnlGrpInfAndSts/GrpSts                                 ",
+    *b"TxInfAndSts/TxSts                                        ",
 ];
 
 fn path(place: usize) -> [u8; PATH_WIDE]
-    requires { ⌜ place < 28 ⌝ }
+    requires { ⌜ place < 33 ⌝ }
 {
     PATHS[place]
 }
@@ -74,6 +87,9 @@ pub fn kind_in(sheet: &[u8]) -> Kind {
     if begins(sheet, b"<Document><FIToFIPmtStsReq") {
         return Kind::Pacs028;
     }
+    if begins(sheet, b"<Document><FIToFIPmtStsRpt") {
+        return Kind::Pacs002;
+    }
     Kind::Pacs008
 }
 
@@ -82,17 +98,19 @@ pub fn put_kind(kind: Kind) {
         Kind::Pacs008 => put(b"pacs.008"),
         Kind::Camt050 => put(b"camt.050"),
         Kind::Pacs028 => put(b"pacs.028"),
+        Kind::Pacs002 => put(b"pacs.002"),
     }
 }
 
 // Where the fields of a kind begin among all.
 fn first_of(kind: Kind) -> usize
-    ensures { λ r. ⌜ r ≤ 20 ⌝ }
+    ensures { λ r. ⌜ r ≤ 28 ⌝ }
 {
     match kind {
         Kind::Pacs008 => 0,
         Kind::Camt050 => CAMT_050_FROM,
         Kind::Pacs028 => PACS_028_FROM,
+        Kind::Pacs002 => PACS_002_FROM,
     }
 }
 
@@ -110,11 +128,30 @@ fn put_path(kind: Kind, number: usize) {
     }
 }
 
+// Whether a field is the TxSts of a pacs.002.
+fn is_tx_sts(kind: Kind, number: usize) -> bool {
+    match kind {
+        Kind::Pacs008 => false,
+        Kind::Camt050 => false,
+        Kind::Pacs028 => false,
+        Kind::Pacs002 => number == TX_STS,
+    }
+}
+
+// What can be wrong with a field.
+fn put_fault(kind: Kind, number: usize) {
+    if is_tx_sts(kind, number) {
+        put(b"): given though GrpSts is ACCP, there twice, or not of its shape");
+        return;
+    }
+    put(b"): missing, there twice, or not of its shape");
+}
+
 // The field that a message was refused for by 8.
 pub fn put_field(sheet: &[u8], number: usize) {
     if number == 0 {
         put(
-            b"refused 8, field 0: the message is unknown; it must be a Document that holds one pacs.008, camt.050 or pacs.028",
+            b"refused 8, field 0: the message is unknown; it must be a Document that holds one pacs.008, camt.050, pacs.028 or pacs.002",
         );
         return;
     }
@@ -125,5 +162,5 @@ pub fn put_field(sheet: &[u8], number: usize) {
     put_kind(kind);
     put(b" (");
     put_path(kind, number);
-    put(b"): missing, there twice, or not of its shape");
+    put_fault(kind, number);
 }

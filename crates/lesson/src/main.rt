@@ -1,4 +1,4 @@
-// Plays a lesson: a class's script on standard input, a call a line, each answered in words behind the line's number. A bad line is answered
+// Plays a lesson: a class's script on standard input, a call a line, each answered in words after the line's number. A bad line is answered
 // with what was expected, and the lesson goes on. What the lines are stands in `script`, what they do in `class`, and the calls in `centre`,
 // each with its contract; this program goes through the lines and prints. `lessons/` has lessons, docs/TEACHERS.md says how to write one.
 mod accounts;
@@ -6,6 +6,7 @@ mod done;
 mod expected;
 mod fields;
 mod meanings;
+mod messages;
 mod refusals;
 mod show;
 
@@ -92,6 +93,6 @@ fn main() {
     let n = io::read_full(STDIN_FILENO, &mut buffer);
     play(&buffer[..n], &mut room);
     if n == SCRIPT_MOST {
-        put(b"the script has 524288 bytes or more; what stands behind them was not played\n");
+        put(b"the script has 524288 bytes or more; what stands after them was not played\n");
     }
 }

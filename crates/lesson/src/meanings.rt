@@ -2,19 +2,17 @@
 use crate::show::put;
 use crate::show::put_number;
 use crate::show::put_row;
+use table::CHECKS_MOST;
 use table::Kind;
 use table::iso_code;
 use table::sep_code;
 ghost use Prim.Native.Nat.{_<_};
 
-// How many checks there are.
-const CHECKS: u64 = 34;
-
 // How many bytes the row of a check has.
 const MEANING_WIDE: usize = 88;
 
-// It fails because ..; one row for each check, blanks behind.
-const MEANINGS: [[u8; MEANING_WIDE]; CHECKS as usize] = [
+// It fails because ..; one row for each check, with blanks after it.
+const MEANINGS: [[u8; MEANING_WIDE]; CHECKS_MOST as usize] = [
     *b"the sender is not in the list of banks, or stands there as a provider                   ",
     *b"the sender is an indirect branch, which sends nothing by itself                         ",
     *b"the sender takes no part in instant payments                                            ",
@@ -24,7 +22,7 @@ const MEANINGS: [[u8; MEANING_WIDE]; CHECKS as usize] = [
     *b"the message was created neither on the day of the call nor the day before               ",
     *b"InstgAgt is not the sender                                                              ",
     *b"OrgnlMsgId is not made by the rule, or does not begin with the sender's code            ",
-    *b"no pacs.008 in the journal has the MsgId that is asked after                            ",
+    *b"no pacs.008 has the MsgId that is asked after, or the one that has it still waits       ",
     *b"the pacs.008 asked after has another creation time, UETR or EndToEndId                  ",
     *b"the creditor account is not one of the sender's                                         ",
     *b"the debtor account is not one of the sender's                                           ",
@@ -49,10 +47,13 @@ const MEANINGS: [[u8; MEANING_WIDE]; CHECKS as usize] = [
     *b"the debtor's agent is a provider that PrvsInstgAgt1 does not serve                      ",
     *b"the debtor's agent is a provider that InstgAgt does not serve                           ",
     *b"the creditor's IBAN is wrong: its check digits do not fit the rest                      ",
+    *b"no transfer that waits for this sender has the MsgId in OrgnlMsgId                      ",
+    *b"the receiving bank cannot process the transfer: a technical refusal                     ",
+    *b"the receiving bank refuses to credit its client                                         ",
 ];
 
 fn row(place: usize) -> [u8; MEANING_WIDE]
-    requires { ⌜ place < 34 ⌝ }
+    requires { ⌜ place < 37 ⌝ }
 {
     MEANINGS[place]
 }
@@ -62,7 +63,7 @@ pub fn put_meaning(check: u64) {
     if check == 0 {
         return;
     }
-    if CHECKS < check {
+    if CHECKS_MOST < check {
         return;
     }
     let text = row((check - 1) as usize);

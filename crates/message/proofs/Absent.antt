@@ -4,24 +4,32 @@ use mathlib.Core.Path.{_≡_, refl, sym, ap, _∙_}
 use mathlib.Core.Bool.{Bool, true, false, _||_, cond, false≢true}
 use mathlib.Core.List.{List, []}
 use Prim.Native.Nat.{ℕ}
+use lib.Dec.{eqb}
+use lib.ListN.{length}
 use Rattle.shape.specs.Patterns.{fits, codePattern, currencyPattern, timePattern, uetrPattern, accountPattern, messagePattern, sepPattern, aspPattern}
 use Rattle.shape.specs.Dates.{timeOf}
 use Rattle.shape.specs.Fields.{codeOf, isAmount, amountOf, currencyOf, accountOf, messageCodeOf, systemOf, isIdentifier}
 use Rattle.shape.specs.Stored.{identifierOf, isUetr, uetrOf}
 use Rattle.shape.specs.declared.value.Value.{Value}
-use Rattle.shape.specs.declared.value.Value.the-variants.{Of, None}
+use Rattle.shape.specs.declared.value.Value.the-variants.{None}
 use Rattle.shape.specs.declared.field.System.{System}
 use Rattle.shape.specs.declared.field.System.the-variants.{Sep, Asp, Neither}
 use Rattle.shape.specs.declared.stored.Identifier.{Identifier as Stored}
+use Rattle.shape.specs.declared.stored.Uetr.{Uetr as StoredUetr}
 use Rattle.shape.proofs.ReadBack.{identifier-not-zeros, uetr-not-zeros}
 use Rattle.remainder.specs.Remainder.{isPlain, remainderOf}
 use Rattle.remainder.specs.declared.Mod97.the-variants.{NoIban}
-use Rattle.message.specs.declared.kinds.Shape.the-variants.{Identifier, Time, Code, System as Listed, Uetr, Amount}
+use Rattle.message.specs.declared.kinds.Shape.the-variants.{Identifier, Time, Code, System as Listed, Uetr, Amount, GroupStatus}
+use Rattle.message.specs.declared.Reply.{Reply}
+use Rattle.message.specs.declared.Reply.the-variants.{NoReply, Accepts, Declines, Refuses}
 use Rattle.message.specs.Good.{isGiven, hasShape}
-use Rattle.message.specs.Message.{nameOf, agentOf}
+use Rattle.message.specs.Message.{nameOf, agentOf, acceptedText, rejectedText, replyOf}
 
 abbrev pub no-identifier : Stored
 no-identifier = record { first = 0; second = 0; third = 0; fourth = 0; fifth = 0 }
+
+abbrev pub no-uetr : StoredUetr
+no-uetr = record { high = 0; low = 0 }
 
 pub empty-code : codeOf [] ≡ None
 unfolding codeOf codePattern fits
@@ -43,7 +51,7 @@ pub empty-identifier : identifierOf [] ≡ no-identifier
 unfolding identifierOf isIdentifier
 empty-identifier = refl
 
-pub empty-uetr : uetrOf [] ≡ record { high = 0; low = 0 }
+pub empty-uetr : uetrOf [] ≡ no-uetr
 unfolding uetrOf isUetr uetrPattern fits
 empty-uetr = refl
 
@@ -63,10 +71,14 @@ pub empty-iban : remainderOf [] ≡ NoIban
 unfolding remainderOf isPlain
 empty-iban = refl
 
+pub empty-reply : replyOf [] [] ≡ NoReply
+unfolding replyOf fits
+empty-reply = refl
+
 given : (v : Value) → isGiven v ≡ true → v ≡ None → ⊥
 given v e z = false≢true (sym (ap isGiven z) ∙ e)
 
--- a good code, time, amount, identifier, UETR and system is none of these
+-- a good code, time, amount, identifier, UETR and system is none of these, and a good GrpSts replies whatever TxSts is
 pub good-code : (s : List ℕ) → hasShape Code s ≡ true → codeOf s ≡ None → ⊥
 unfolding hasShape
 good-code s e = given (codeOf s) e
@@ -83,7 +95,7 @@ pub good-identifier : (s : List ℕ) → hasShape Identifier s ≡ true → iden
 unfolding hasShape
 good-identifier s e = identifier-not-zeros s e
 
-pub good-uetr : (s : List ℕ) → hasShape Uetr s ≡ true → uetrOf s ≡ record { high = 0; low = 0 } → ⊥
+pub good-uetr : (s : List ℕ) → hasShape Uetr s ≡ true → uetrOf s ≡ no-uetr → ⊥
 unfolding hasShape
 good-uetr s e = uetr-not-zeros s e
 
@@ -100,3 +112,19 @@ good-system s e z = false≢true (sym (ap is-listed z) ∙ told (fits sepPattern
     told true u e = refl
     told false true e = refl
     told false false e = e
+
+replies : Reply → Bool
+replies NoReply = false
+replies Accepts = true
+replies Declines = true
+replies Refuses = true
+
+pub good-reply : (s t : List ℕ) → hasShape GroupStatus s ≡ true → replyOf s t ≡ NoReply → ⊥
+unfolding hasShape replyOf replies
+good-reply s t e z = false≢true (sym (ap replies z) ∙ told (fits acceptedText s) (fits rejectedText s) (eqb (length t) 0) e)
+  where
+    told : (a r n : Bool) → (a || r) ≡ true → replies (cond a Accepts (cond r (cond n Declines Refuses) NoReply)) ≡ true
+    told true r n e = refl
+    told false true true e = refl
+    told false true false e = refl
+    told false false n e = e

@@ -9,8 +9,8 @@ use Rattle.shape.specs.Fields.{currencyOf}
 use Rattle.shape.specs.Patterns.{fits, currencyPattern}
 use Rattle.shape.specs.declared.value.Value.the-variants.{None}
 use Rattle.table.specs.declared.Kind.{Kind}
-use Rattle.table.specs.declared.Kind.the-variants.{Pacs008, Camt050, Pacs028}
-use Rattle.message.specs.Fields.{fieldsOf, pacs008Fields, camt050Fields, pacs028Fields, numbersOf}
+use Rattle.table.specs.declared.Kind.the-variants.{Pacs008, Camt050, Pacs028, Pacs002}
+use Rattle.message.specs.Fields.{fieldsOf, pacs008Fields, camt050Fields, pacs028Fields, pacs002Fields, numbersOf}
 use Rattle.message.specs.Held.{Held, missing}
 use Rattle.message.specs.Message.{ccyIn, numbered}
 
@@ -19,10 +19,11 @@ unfolding currencyOf ccyIn fits currencyPattern
 no-currency held number e = rw e
 
 pub amount-listed : (kind : Kind) (number : ℕ) → number ≡ numbersOf kind .amount → 0 < number → number - 1 < length (fieldsOf kind)
-unfolding numbersOf fieldsOf pacs008Fields camt050Fields pacs028Fields
+unfolding numbersOf fieldsOf pacs008Fields camt050Fields pacs028Fields pacs002Fields
 amount-listed Pacs008 number e h = omega arith
 amount-listed Camt050 number e h = omega arith
 amount-listed Pacs028 number e h = absurd (omega arith)
+amount-listed Pacs002 number e h = absurd (omega arith)
 
 -- the field with a number stands one place before it in the list
 pub numbered-at : (held : List Held) (number : ℕ) → 0 < number → numbered held number ≡ getD held (number - 1) missing

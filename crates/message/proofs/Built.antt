@@ -15,10 +15,11 @@ use Rattle.remainder.specs.declared.Mod97.{Mod97}
 use Rattle.table.specs.declared.Kind.{Kind}
 use Rattle.message.specs.declared.Name.{Name}
 use Rattle.message.specs.declared.Agent.{Agent}
+use Rattle.message.specs.declared.Reply.{Reply}
 use Rattle.message.specs.declared.Message.{Message}
 use Rattle.message.specs.declared.kinds.Numbers.{Numbers}
 use Rattle.message.specs.Fields.{numbersOf}
-use Rattle.message.specs.Message.{nameOf, agentOf, messageFrom}
+use Rattle.message.specs.Message.{nameOf, agentOf, replyOf, messageFrom}
 
 pub built : (kind : Kind) (n : Numbers) (text : ℕ → List ℕ) (currency : Value)
     {id : Name}
@@ -36,6 +37,7 @@ pub built : (kind : Kind) (n : Numbers) (text : ℕ → List ℕ) (currency : Va
     {credit : Account}
     {original : Name}
     {originated : Value}
+    {reply : Reply}
     → n ≡ numbersOf kind
     → id ≡ nameOf (text (n .id))
     → created ≡ timeOf (text (n .created))
@@ -52,6 +54,7 @@ pub built : (kind : Kind) (n : Numbers) (text : ℕ → List ℕ) (currency : Va
     → credit ≡ accountOf (text (n .credit))
     → original ≡ nameOf (text (n .original))
     → originated ≡ timeOf (text (n .originated))
+    → reply ≡ replyOf (text (n .group)) (text (n .transaction))
     → _≡_ {A = Message}
     (record {
       kind = kind;
@@ -71,8 +74,9 @@ pub built : (kind : Kind) (n : Numbers) (text : ℕ → List ℕ) (currency : Va
       credit = credit;
       original = original;
       originated = originated;
+      reply = reply;
     })
     (messageFrom kind text currency)
 unfolding messageFrom
-built kind n text currency e e1 e2 e3 e4 e5 e6 e7 e8 e9 e10 e11 e12 e13 e14 e15 =
-    rw (← e, e1, e2, e3, e4, e5, e6, e7, e8, e9, e10, e11, e12, e13, e14, e15)
+built kind n text currency e e1 e2 e3 e4 e5 e6 e7 e8 e9 e10 e11 e12 e13 e14 e15 e16 =
+    rw (← e, e1, e2, e3, e4, e5, e6, e7, e8, e9, e10, e11, e12, e13, e14, e15, e16)

@@ -11,10 +11,10 @@ use Rattle.sheet.specs.Answer.{Reading, accepted, refused, readingOf}
 use Rattle.outline.specs.Rows.{Row, rowsFrom, rowsOf, nameAt, aroundAt}
 use Rattle.outline.specs.Paths.{samePath, standing}
 use Rattle.table.specs.declared.Kind.{Kind}
-use Rattle.table.specs.declared.Kind.the-variants.{Pacs008, Camt050, Pacs028}
+use Rattle.table.specs.declared.Kind.the-variants.{Pacs008, Camt050, Pacs028, Pacs002}
 use Rattle.message.specs.declared.kinds.Body.{Body}
 use Rattle.message.specs.declared.kinds.Body.the-variants.{Of, Unknown}
-use Rattle.message.specs.Fields.{Field, fieldsOf, fieldsMost, pacs008Fields, camt050Fields, pacs028Fields}
+use Rattle.message.specs.Fields.{Field, fieldsOf, fieldsMost, pacs008Fields, camt050Fields, pacs028Fields, pacs002Fields}
 use Rattle.message.specs.Held.{Held, missing, once, heldIn, heldOf, kindOf}
 use Rattle.message.specs.Good.{lowestBad}
 use Rattle.message.specs.Message.{textIn, numbered}
@@ -91,10 +91,11 @@ field-shown s k = from-shown s (readingOf s) k
 
 -- no kind has a field with a number above the most
 pub fields-few : (kind : Kind) → length (fieldsOf kind) ≤ fieldsMost
-unfolding fieldsOf pacs008Fields camt050Fields pacs028Fields
+unfolding fieldsOf pacs008Fields camt050Fields pacs028Fields pacs002Fields
 fields-few Pacs008 = omega arith
 fields-few Camt050 = omega arith
 fields-few Pacs028 = omega arith
+fields-few Pacs002 = omega arith
 
 past-last : (kind : Kind) (rows : List Row) (k : ℕ) → fieldsMost < k → textIn (numbered (heldOf kind rows) k) ≡ []
 unfolding textIn heldOf

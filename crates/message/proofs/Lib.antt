@@ -1,5 +1,6 @@
 pub mod Absent
 pub mod Amounts
+pub mod Beside
 pub mod Built
 pub mod Due
 pub mod Entries

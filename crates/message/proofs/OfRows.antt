@@ -1,28 +1,27 @@
 -- What the survey of a sheet shows is what its rows say: the kind, and what each field holds.
 -- Assumes nothing.
-use mathlib.Core.Path.{_≡_, refl, sym, ap, subst, _∙_}
+use mathlib.Core.Path.{_≡_, refl, sym, ap, _∙_}
 use mathlib.Core.Bool.{Bool, true, false, not, cond, false≢true}
 use mathlib.Core.List.{List, [], _∷_, map}
-use Prim.Native.Nat.{ℕ, zero, suc, _<_}
+use Prim.Native.Nat.{ℕ, suc, _<_}
 use native.Mathlib.Omega.{arith}
 use lib.Dec.{eqb}
 use lib.ListN.{length, getD}
-use borrow.Author.Tests.{not-true, eq-eqb, eqb-true, ne-eqb}
+use borrow.Author.Tests.{not-true, eq-eqb, ne-eqb}
 use Rattle.shape.specs.Bytes.{every}
 use Rattle.shape.proofs.Tests.{and-left, and-right}
-use Rattle.sheet.specs.Right.{Reading, accepted, refused}
-use Rattle.outline.specs.Rows.{Row, ccyAt, insideAt, textAt, rowOn, rowsOf}
+use Rattle.sheet.specs.Right.{accepted}
+use Rattle.outline.specs.Rows.{Row, rowOn, rowsOf}
 use Rattle.outline.specs.Paths.{sameName, samePath, standing, atDepth}
 use Rattle.outline.proofs.Paths.{same-path}
 use Rattle.paths.specs.Tree.{names, firsts, nameOf, childOf, nodeOf}
 use Rattle.paths.specs.Survey.{standingOf}
 use Rattle.paths.proofs.Surveyed.{counted, found, bodies-counted}
 use Rattle.table.specs.declared.Kind.{Kind}
-use Rattle.table.specs.declared.Kind.the-variants.{Pacs008, Camt050, Pacs028}
-use Rattle.message.specs.declared.kinds.Body.{Body}
+use Rattle.table.specs.declared.Kind.the-variants.{Pacs008, Camt050, Pacs028, Pacs002}
 use Rattle.message.specs.declared.kinds.Body.the-variants.{Of, Unknown}
-use Rattle.message.specs.Fields.{Field, pacs008Fields, camt050Fields, pacs028Fields, fieldsOf, bodyOf}
-use Rattle.message.specs.Held.{Held, missing, once, doubled, heldIn, kindNamed, onlyKind, kindOf, heldOf}
+use Rattle.message.specs.Fields.{Field, pacs008Fields, camt050Fields, pacs028Fields, pacs002Fields, fieldsOf, bodyOf}
+use Rattle.message.specs.Held.{Held, heldIn, kindNamed, onlyKind, kindOf, heldOf}
 use Rattle.message.specs.Seen.{heldAt, heldSeen, bodiesSeen, kindSeen}
 
 two-not : (n k : ℕ) → k < 2 → eqb (suc (suc n)) k ≡ false
@@ -40,10 +39,11 @@ on-tree : Field → Bool
 on-tree f = not (eqb (nodeOf (f .path)) 0)
 
 tested : (kind : Kind) → every on-tree (fieldsOf kind) ≡ true
-unfolding on-tree fieldsOf pacs008Fields camt050Fields pacs028Fields nodeOf childOf nameOf names firsts sameName
+unfolding on-tree fieldsOf pacs008Fields camt050Fields pacs028Fields pacs002Fields nodeOf childOf nameOf names firsts sameName
 tested Pacs008 = refl
 tested Camt050 = refl
 tested Pacs028 = refl
+tested Pacs002 = refl
 
 -- so has the path that names a kind, and it has two names
 body-tested : (kind : Kind) → (length (bodyOf kind) ≡ 2) × (nodeOf (bodyOf kind) ≡ 0 → ⊥)
@@ -51,6 +51,7 @@ unfolding bodyOf nodeOf childOf nameOf names firsts sameName
 body-tested Pacs008 = (refl, λ z. omega arith)
 body-tested Camt050 = (refl, λ z. omega arith)
 body-tested Pacs028 = (refl, λ z. omega arith)
+body-tested Pacs002 = (refl, λ z. omega arith)
 
 map-same : (test : Field → Bool) (f g : Field → Held) → ((x : Field) → test x ≡ true → f x ≡ g x)
     → (fields : List Field) → every test fields ≡ true → map f fields ≡ map g fields
@@ -86,11 +87,13 @@ kind-counted : (rows : List Row) → onlyKind rows
     (cond (eqb (length (standing (bodyOf Pacs008) rows)) 1) (Of Pacs008)
     (cond (eqb (length (standing (bodyOf Camt050) rows)) 1) (Of Camt050)
     (cond (eqb (length (standing (bodyOf Pacs028) rows)) 1) (Of Pacs028)
-    Unknown)))
+    (cond (eqb (length (standing (bodyOf Pacs002) rows)) 1) (Of Pacs002)
+    Unknown))))
     Unknown
 unfolding onlyKind kindNamed
 kind-counted [] = refl
-kind-counted (row ∷ []) = rw (alone-counted (bodyOf Pacs008) row, alone-counted (bodyOf Camt050) row, alone-counted (bodyOf Pacs028) row)
+kind-counted (row ∷ []) =
+    rw (alone-counted (bodyOf Pacs008) row, alone-counted (bodyOf Camt050) row, alone-counted (bodyOf Pacs028) row, alone-counted (bodyOf Pacs002) row)
 kind-counted (row ∷ second ∷ rows) = rw (two-not (length rows) 1 (omega arith))
 
 module _ (s : List ℕ) (n : ℕ) (starts depths : List ℕ) where
@@ -122,4 +125,4 @@ module _ (s : List ℕ) (n : ℕ) (starts depths : List ℕ) where
   unfolding kindOf kindSeen
   kind-seen =
       kind-counted (atDepth 2 rows)
-      ∙ rw (bodies-counted s n starts depths, body-counted Pacs008, body-counted Camt050, body-counted Pacs028)
+      ∙ rw (bodies-counted s n starts depths, body-counted Pacs008, body-counted Camt050, body-counted Pacs028, body-counted Pacs002)

@@ -27,13 +27,15 @@ use Rattle.sheet.specs.Answer.{Reading, accepted, refused, readingOf}
 use Rattle.outline.specs.Rows.{Row, rowsOf}
 use Rattle.outline.specs.Paths.{standing}
 use Rattle.table.specs.declared.Kind.{Kind}
-use Rattle.table.specs.declared.Kind.the-variants.{Pacs008, Camt050, Pacs028}
+use Rattle.table.specs.declared.Kind.the-variants.{Pacs008, Camt050, Pacs028, Pacs002}
 use Rattle.message.specs.declared.kinds.Shape.{Shape}
 use Rattle.message.specs.declared.kinds.Shape.the-variants.{Identifier as Named, Time as Timed, Uetr as Traced, Amount as Paid}
 use Rattle.message.specs.declared.kinds.Ccy.{Ccy}
 use Rattle.message.specs.declared.kinds.Numbers.{Numbers}
 use Rattle.message.specs.declared.Answer.{Answer}
 use Rattle.message.specs.declared.Answer.the-variants.{IllFormed, BadField, Good}
+use Rattle.message.specs.declared.Reply.{Reply}
+use Rattle.message.specs.declared.Reply.the-variants.{NoReply}
 use Rattle.message.specs.declared.Message.{Message}
 use Rattle.message.specs.Fields.{
   Field,
@@ -42,9 +44,11 @@ use Rattle.message.specs.Fields.{
   pacs008Fields,
   camt050Fields,
   pacs028Fields,
+  pacs002Fields,
   pacs008Numbers,
   camt050Numbers,
   pacs028Numbers,
+  pacs002Numbers,
   numbersOf,
 }
 use Rattle.message.specs.Held.{Held, missing, once, doubled, heldIn, kindOf, heldOf}
@@ -52,7 +56,7 @@ use Rattle.message.specs.Good.{isGiven, hasShape, ccyFits, textFits, isG
 use Rattle.message.specs.Message.{textIn, numbered, nameOf, messageFrom, messageOf}
 use Rattle.message.specs.Received.{receivedAs, receivedFrom, receivedOf}
 use Rattle.message.specs.Lowest.{fine, Bad, Told, unknown, bad, good}
-use Rattle.message.proofs.Absent.{empty-identifier}
+use Rattle.message.proofs.Absent.{no-identifier, no-uetr, empty-identifier, empty-uetr, good-reply}
 use Rattle.message.proofs.Lowest.{told}
 
 -- an identifier, a UETR, a time, an amount in kopecks, as a good message has them
@@ -77,23 +81,39 @@ pub record IsAmount (v : Value) : Type 0 where
   pub least : 1 ≤ kopecks
   pub most : kopecks ≤ 9999999999999
 
--- what the kind has of a reference and of an amount
+-- what the kind has of a UETR, of a reference and of an amount
+abbrev pub HasUetr : Kind → Uetr → Type 0
+HasUetr Pacs008 x = IsUetr x
+HasUetr Camt050 x = IsUetr x
+HasUetr Pacs028 x = IsUetr x
+HasUetr Pacs002 x = x ≡ no-uetr
+
 abbrev pub Referenced : Kind → Identifier → Type 0
 Referenced Pacs008 x = IsIdentifier x
-Referenced Camt050 x = x ≡ record { first = 0; second = 0; third = 0; fourth = 0; fifth = 0 }
+Referenced Camt050 x = x ≡ no-identifier
 Referenced Pacs028 x = IsIdentifier x
+Referenced Pacs002 x = x ≡ no-identifier
 
 abbrev pub Moves : Kind → Value → Type 0
 Moves Pacs008 v = IsAmount v
 Moves Camt050 v = IsAmount v
 Moves Pacs028 v = Unit {0}
+Moves Pacs002 v = Unit {0}
+
+-- an answer says something of the transfer
+abbrev pub Replies : Kind → Reply → Type 0
+Replies Pacs008 r = Unit {0}
+Replies Camt050 r = Unit {0}
+Replies Pacs028 r = Unit {0}
+Replies Pacs002 r = r ≡ NoReply → ⊥
 
 pub record Shaped (m : Message) : Type 0 where
   pub identifier : IsIdentifier (m .id .stored)
   pub created : IsTime (m .created)
-  pub uetr : IsUetr (m .uetr)
+  pub uetr : HasUetr (m .kind) (m .uetr)
   pub reference : Referenced (m .kind) (m .reference)
   pub amount : Moves (m .kind) (m .amount)
+  pub reply : Replies (m .kind) (m .reply)
 
 -- c followed by k zeros
 abbrev tens : ℕ → ℕ → ℕ
@@ -216,7 +236,7 @@ module _ (rows : List Row) where
   textOf kind k = textIn (numbered (heldOf kind rows) k)
 
   kind-shaped : (kind : Kind) → NoneBad kind → Shaped (messageOf kind (heldOf kind rows))
-  unfolding messageOf messageFrom nameOf numbersOf heldOf fieldsOf pacs008Fields camt050Fields pacs028Fields textIn
+  unfolding messageOf messageFrom nameOf numbersOf heldOf fieldsOf pacs008Fields camt050Fields pacs028Fields pacs002Fields textIn
   kind-shaped Pacs008 fault =
       let of : Numbers = pacs008Numbers in
       record {
@@ -225,6 +245,7 @@ module _ (rows : List Row) where
         uetr = uetr-shaped (textOf Pacs008 (of .uetr)) (fits-at Pacs008 fault (of .uetr) (lit< tt) refl);
         reference = identifier-shaped (textOf Pacs008 (of .reference)) (fits-at Pacs008 fault (of .reference) (lit< tt) refl);
         amount = amount-shaped (textOf Pacs008 (of .amount)) (fits-at Pacs008 fault (of .amount) (lit< tt) refl);
+        reply = tt;
       }
   kind-shaped Camt050 fault =
       let of : Numbers = camt050Numbers in
@@ -234,6 +255,7 @@ module _ (rows : List Row) where
         uetr = uetr-shaped (textOf Camt050 (of .uetr)) (fits-at Camt050 fault (of .uetr) (lit< tt) refl);
         reference = empty-identifier;
         amount = amount-shaped (textOf Camt050 (of .amount)) (fits-at Camt050 fault (of .amount) (lit< tt) refl);
+        reply = tt;
       }
   kind-shaped Pacs028 fault =
       let of : Numbers = pacs028Numbers in
@@ -243,6 +265,18 @@ module _ (rows : List Row) where
         uetr = uetr-shaped (textOf Pacs028 (of .uetr)) (fits-at Pacs028 fault (of .uetr) (lit< tt) refl);
         reference = identifier-shaped (textOf Pacs028 (of .reference)) (fits-at Pacs028 fault (of .reference) (lit< tt) refl);
         amount = tt;
+        reply = tt;
+      }
+  kind-shaped Pacs002 fault =
+      let of : Numbers = pacs002Numbers in
+      record {
+        identifier = identifier-shaped (textOf Pacs002 (of .id)) (fits-at Pacs002 fault (of .id) (lit< tt) refl);
+        created = time-shaped (textOf Pacs002 (of .created)) (fits-at Pacs002 fault (of .created) (lit< tt) refl);
+        uetr = empty-uetr;
+        reference = empty-identifier;
+        amount = tt;
+        reply =
+            good-reply (textOf Pacs002 (of .group)) (textOf Pacs002 (of .transaction)) (fits-at Pacs002 fault (of .group) (lit< tt) refl);
       }
 
   -- an answer that is a message is told of a sheet without a bad field

@@ -15,9 +15,21 @@ use Rattle.shape.specs.Bytes.{every}
 use Rattle.shape.proofs.Tests.{and-left, and-right, at-place}
 use Rattle.outline.specs.Paths.{sameName, samePath}
 use Rattle.table.specs.declared.Kind.{Kind}
-use Rattle.table.specs.declared.Kind.the-variants.{Pacs008, Camt050, Pacs028}
+use Rattle.table.specs.declared.Kind.the-variants.{Pacs008, Camt050, Pacs028, Pacs002}
 use Rattle.message.specs.declared.kinds.Numbers.{Numbers}
-use Rattle.message.specs.Fields.{Field, noField, pathOf, pacs008Fields, camt050Fields, pacs028Fields, fieldsOf, bodyOf, fieldsMost, numbersOf}
+use Rattle.message.specs.Fields.{
+  Field,
+  noField,
+  pathOf,
+  pacs008Fields,
+  camt050Fields,
+  pacs028Fields,
+  pacs002Fields,
+  fieldsOf,
+  bodyOf,
+  fieldsMost,
+  numbersOf,
+}
 
 -- a path is another one or the front of it. Names stand innermost first, so its names are the last ones of the other
 abbrev pub isFront : List (List ℕ) → List (List ℕ) → Bool
@@ -32,10 +44,11 @@ allApart [] = true
 allApart (f ∷ fields) = every (apart f) fields && allApart fields
 
 tested : (kind : Kind) → allApart (fieldsOf kind) ≡ true
-unfolding allApart fieldsOf pacs008Fields camt050Fields pacs028Fields samePath sameName
+unfolding allApart fieldsOf pacs008Fields camt050Fields pacs028Fields pacs002Fields samePath sameName
 tested Pacs008 = refl
 tested Camt050 = refl
 tested Pacs028 = refl
+tested Pacs002 = refl
 
 pairs : (fields : List Field) → allApart fields ≡ true → (i j : ℕ) → i < j → j < length fields
     → apart (getD fields i noField) (getD fields j noField) ≡ true
@@ -53,15 +66,16 @@ fields-apart kind = pairs (fieldsOf kind) (tested kind)
 
 -- every field stands below its kind's own path
 below : (kind : Kind) → every (λ (f : Field). isFront (bodyOf kind) (f .path)) (fieldsOf kind) ≡ true
-unfolding fieldsOf bodyOf pacs008Fields camt050Fields pacs028Fields samePath sameName
+unfolding fieldsOf bodyOf pacs008Fields camt050Fields pacs028Fields pacs002Fields samePath sameName
 below Pacs008 = refl
 below Camt050 = refl
 below Pacs028 = refl
+below Pacs002 = refl
 
 pub fields-below : (kind : Kind) (i : ℕ) → i < length (fieldsOf kind) → isFront (bodyOf kind) (getD (fieldsOf kind) i noField .path) ≡ true
 fields-below kind i h = at-place (λ (f : Field). isFront (bodyOf kind) (f .path)) (fieldsOf kind) noField (below kind) i h
 
--- each number of a kind, and in which names the path of its field ends: document 01, "Fields", in whatever kind
+-- each number of a kind, and in which names the path of its field ends: document 01, "Fields", and request 9 of document 02, in whatever kind
 abbrev pub endings : Numbers → List (ℕ × List String)
 endings of =
     (of .id, "/MsgId" ∷ [])
@@ -81,6 +95,8 @@ endings of =
     ∷ (of .credit, "/CdtrAcct/Id/Othr/Id" ∷ [])
     ∷ (of .original, "/OrgnlMsgId" ∷ [])
     ∷ (of .originated, "/OrgnlCreDtTm" ∷ [])
+    ∷ (of .group, "/GrpSts" ∷ [])
+    ∷ (of .transaction, "/TxSts" ∷ [])
     ∷ []
 
 -- a path ends in one of these. Names stand innermost first, so its first names are those of the end
@@ -99,10 +115,11 @@ isNumber kind part = eqb (part .0) (numberEnding (part .1) 1 (fieldsOf kind)) &&
 
 -- so is each number of a kind; it is 0 where no field ends so
 pub numbers-right : (kind : Kind) → every (isNumber kind) (endings (numbersOf kind)) ≡ true
-unfolding isNumber numberEnding endsIn numbersOf fieldsOf pacs008Fields camt050Fields pacs028Fields samePath sameName
+unfolding isNumber numberEnding endsIn numbersOf fieldsOf pacs008Fields camt050Fields pacs028Fields pacs002Fields samePath sameName
 numbers-right Pacs008 = refl
 numbers-right Camt050 = refl
 numbers-right Pacs028 = refl
+numbers-right Pacs002 = refl
 
 -- so the number at a place of that list is not above the most
 pub number-low : (kind : Kind) (i : ℕ) → i < length (endings (numbersOf kind)) → getD (endings (numbersOf kind)) i (0, []) .0 ≤ fieldsMost

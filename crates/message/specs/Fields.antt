@@ -1,5 +1,5 @@
--- The fields of the three kinds of messages: document 01, "Fields". A table for each kind, in the document's order; a field's number is its
--- place in the table, counted from 1. Paths are written in full, M as FinInstnId/ClrSysMmbId/MmbId and S as
+-- The fields of the four kinds of messages: document 01, "Fields", and request 9 of document 02. A table for each kind, in the document's order;
+-- a field's number is its place in the table, counted from 1. Paths are written in full, M as FinInstnId/ClrSysMmbId/MmbId and S as
 -- FinInstnId/ClrSysMmbId/ClrSysId/Prtry. That no path stands twice in a kind and none is the front of another is a computed test
 -- (`proofs/Tables.antt`).
 use mathlib.Core.Bool.{Bool, true, false, cond}
@@ -10,9 +10,21 @@ use Prim.Native.String.{String}
 use lib.Dec.{eqb}
 use Rattle.shape.specs.Text.{bytes}
 use Rattle.table.specs.declared.Kind.{Kind}
-use Rattle.table.specs.declared.Kind.the-variants.{Pacs008, Camt050, Pacs028}
+use Rattle.table.specs.declared.Kind.the-variants.{Pacs008, Camt050, Pacs028, Pacs002}
 use Rattle.message.specs.declared.kinds.Shape.{Shape}
-use Rattle.message.specs.declared.kinds.Shape.the-variants.{Identifier, Time, Code, System, Uetr, Amount, Iban, Account, Original}
+use Rattle.message.specs.declared.kinds.Shape.the-variants.{
+  Identifier,
+  Time,
+  Code,
+  System,
+  Uetr,
+  Amount,
+  Iban,
+  Account,
+  Original,
+  GroupStatus,
+  TransactionStatus,
+}
 use Rattle.message.specs.declared.kinds.Ccy.{Ccy}
 use Rattle.message.specs.declared.kinds.Ccy.the-variants.{Absent, Any, Hryvnia}
 use Rattle.message.specs.declared.kinds.Numbers.{Numbers}
@@ -90,16 +102,27 @@ pacs028Fields =
     ∷ field Identifier "/Document/FIToFIPmtStsReq/TxInf/OrgnlEndToEndId"
     ∷ []
 
+unfoldable pub pacs002Fields : List Field
+pacs002Fields =
+    field Identifier "/Document/FIToFIPmtStsRpt/GrpHdr/MsgId"
+    ∷ field Time "/Document/FIToFIPmtStsRpt/GrpHdr/CreDtTm"
+    ∷ field Identifier "/Document/FIToFIPmtStsRpt/OrgnlGrpInfAndSts/OrgnlMsgId"
+    ∷ field GroupStatus "/Document/FIToFIPmtStsRpt/OrgnlGrpInfAndSts/GrpSts"
+    ∷ optional TransactionStatus "/Document/FIToFIPmtStsRpt/TxInfAndSts/TxSts"
+    ∷ []
+
 unfoldable pub fieldsOf : Kind → List Field
 fieldsOf Pacs008 = pacs008Fields
 fieldsOf Camt050 = camt050Fields
 fieldsOf Pacs028 = pacs028Fields
+fieldsOf Pacs002 = pacs002Fields
 
 -- the path that names the kind
 unfoldable pub bodyOf : Kind → List (List ℕ)
 bodyOf Pacs008 = pathOf "/Document/FIToFICstmrCdtTrf"
 bodyOf Camt050 = pathOf "/Document/LqdyCdtTrf"
 bodyOf Pacs028 = pathOf "/Document/FIToFIPmtStsReq"
+bodyOf Pacs002 = pathOf "/Document/FIToFIPmtStsRpt"
 
 -- the most fields that a kind has
 abbrev pub fieldsMost : ℕ
@@ -125,6 +148,8 @@ pacs008Numbers = record {
   credit = 0;
   original = 0;
   originated = 0;
+  group = 0;
+  transaction = 0;
 }
 
 abbrev pub camt050Numbers : Numbers
@@ -144,6 +169,8 @@ camt050Numbers = record {
   credit = 6;
   original = 0;
   originated = 0;
+  group = 0;
+  transaction = 0;
 }
 
 abbrev pub pacs028Numbers : Numbers
@@ -163,9 +190,33 @@ pacs028Numbers = record {
   credit = 0;
   original = 4;
   originated = 6;
+  group = 0;
+  transaction = 0;
+}
+
+abbrev pub pacs002Numbers : Numbers
+pacs002Numbers = record {
+  id = 1;
+  created = 2;
+  instructing = 0;
+  instructed = 0;
+  reference = 0;
+  uetr = 0;
+  amount = 0;
+  previous = 0;
+  debtor = record { system = 0; code = 0 };
+  creditor = record { system = 0; code = 0 };
+  iban = 0;
+  debit = 0;
+  credit = 0;
+  original = 3;
+  originated = 0;
+  group = 4;
+  transaction = 5;
 }
 
 unfoldable pub numbersOf : Kind → Numbers
 numbersOf Pacs008 = pacs008Numbers
 numbersOf Camt050 = camt050Numbers
 numbersOf Pacs028 = pacs028Numbers
+numbersOf Pacs002 = pacs002Numbers

@@ -26,7 +26,7 @@ numberOf (Good message) = (0, 0)
 abbrev pub fine : List Row → Field → Bool
 fine rows f = isGood (f .optional) (f .shape) (f .ccy) (heldIn (standing (f .path) rows))
 
--- the field with the number i + 1 is bad: by itself, or by a rule between fields, of which document 01 has none
+-- the field with the number i + 1 is bad: by itself, or by a rule between fields, which a pacs.002 alone has
 pub record Bad (kind : Kind) (rows : List Row) (i : ℕ) : Type 0 where
   pub numbered : i < length (fieldsOf kind)
   pub faulty : (fine rows (getD (fieldsOf kind) i noField) && goesWith kind (suc i) (heldOf kind rows)) ≡ false

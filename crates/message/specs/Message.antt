@@ -1,10 +1,13 @@
 -- A message: its kind, and of each field what the checks and the journal need. Two fields that mean the same in two kinds are one part of the
 -- message; a part that a kind lacks, or whose field is missing, is what an empty text gives (`proofs/Absent.antt`).
-use mathlib.Core.Bool.{Bool, true, false, cond}
-use mathlib.Core.List.{List, [], _∷_, map}
-use mathlib.Core.Option.{Option, none, some}
+use mathlib.Core.Bool.{cond}
+use mathlib.Core.List.{List, [], _∷_}
+use mathlib.Core.Option.{none, some}
 use Prim.Native.Nat.{ℕ}
 use lib.ListN.{length, getD}
+use lib.Dec.{eqb}
+use Rattle.shape.specs.Text.{bytes}
+use Rattle.shape.specs.Patterns.{fits}
 use Rattle.shape.specs.Dates.{timeOf}
 use Rattle.shape.specs.Fields.{codeOf, amountOf, currencyOf, accountOf, messageCodeOf, systemOf}
 use Rattle.shape.specs.Stored.{identifierOf, uetrOf}
@@ -15,6 +18,8 @@ use Rattle.outline.specs.Paths.{charactersOf}
 use Rattle.message.specs.declared.kinds.Numbers.{Numbers}
 use Rattle.message.specs.declared.Name.{Name}
 use Rattle.message.specs.declared.Agent.{Agent}
+use Rattle.message.specs.declared.Reply.{Reply}
+use Rattle.message.specs.declared.Reply.the-variants.{NoReply, Accepts, Declines, Refuses}
 use Rattle.message.specs.declared.Message.{Message}
 use Rattle.message.specs.Fields.{numbersOf}
 use Rattle.message.specs.Held.{Held, missing, once, doubled}
@@ -57,6 +62,20 @@ nameOf s = record { stored = identifierOf s; code = messageCodeOf s }
 unfoldable pub agentOf : List ℕ → List ℕ → Agent
 agentOf system code = record { system = systemOf system; code = codeOf code }
 
+-- what GrpSts and TxSts can be
+abbrev pub acceptedText : List ℕ
+acceptedText = bytes "ACCP"
+
+abbrev pub rejectedText : List ℕ
+rejectedText = bytes "RJCT"
+
+-- what the receiving bank says by GrpSts and TxSts: ACCP accepts the transfer; RJCT without TxSts declines it, which is a technical refusal; RJCT
+-- with TxSts refuses to credit the client
+unfoldable pub replyOf : List ℕ → List ℕ → Reply
+replyOf group transaction =
+    cond (fits acceptedText group) Accepts
+    (cond (fits rejectedText group) (cond (eqb (length transaction) 0) Declines Refuses) NoReply)
+
 -- each part by the number of its field in the kind
 unfoldable pub messageFrom : Kind → (ℕ → List ℕ) → Value → Message
 messageFrom kind text currency =
@@ -79,6 +98,7 @@ messageFrom kind text currency =
       credit = accountOf (text (of .credit));
       original = nameOf (text (of .original));
       originated = timeOf (text (of .originated));
+      reply = replyOf (text (of .group)) (text (of .transaction));
     }
 
 unfoldable pub messageOf : Kind → List Held → Message

@@ -1,14 +1,14 @@
 -- The same things said of a survey, which is what the code works on: a node's count and start instead of the rows at its path.
 -- A reader need not believe this file: `receive` promises what `Received` says.
-use mathlib.Core.Bool.{Bool, cond}
-use mathlib.Core.List.{List, [], _∷_, map}
+use mathlib.Core.Bool.{cond}
+use mathlib.Core.List.{List, map}
 use Prim.Native.Nat.{ℕ}
 use lib.Dec.{eqb}
 use lib.ListN.{getD}
 use Rattle.outline.specs.Rows.{ccyAt, insideAt, textAt}
 use Rattle.paths.specs.Tree.{nodeOf}
 use Rattle.table.specs.declared.Kind.{Kind}
-use Rattle.table.specs.declared.Kind.the-variants.{Pacs008, Camt050, Pacs028}
+use Rattle.table.specs.declared.Kind.the-variants.{Pacs008, Camt050, Pacs028, Pacs002}
 use Rattle.message.specs.declared.kinds.Entry.{Entry}
 use Rattle.message.specs.declared.kinds.Body.{Body}
 use Rattle.message.specs.declared.kinds.Body.the-variants.{Of, Unknown}
@@ -39,5 +39,6 @@ kindSeen bodies counts =
     (cond (eqb (bodiesSeen Pacs008 counts) 1) (Of Pacs008)
     (cond (eqb (bodiesSeen Camt050 counts) 1) (Of Camt050)
     (cond (eqb (bodiesSeen Pacs028 counts) 1) (Of Pacs028)
-    Unknown)))
+    (cond (eqb (bodiesSeen Pacs002 counts) 1) (Of Pacs002)
+    Unknown))))
     Unknown

@@ -1,7 +1,10 @@
-// Whether a field is good: document 01, "Fields" and its shapes.
+// Whether a field is good: document 01, "Fields" and its shapes, and request 9 of document 02.
 use crate::kinds::Ccy;
 use crate::kinds::Entry;
 use crate::kinds::Shape;
+use crate::kinds::entry_at;
+use crate::kinds::numbers_of;
+use crate::parts::spot_of;
 use outline::parts_at;
 use paths::NODES;
 use shape::date::time_of;
@@ -21,6 +24,7 @@ ghost use mathlib.Core.Option.{some, none};
 ghost use Prim.Native.Nat.{_+_, _≤_};
 ghost use lib.ListN.{length, take, drop};
 ghost use Rattle.paths.specs.Tree.{nodes};
+ghost use Rattle.table.specs.declared.Kind.the-variants.{Pacs002};
 ghost use Rattle.message.specs.Good.{isGiven, hasShape, ccyFits, isGood, goesWith};
 ghost use Rattle.message.specs.Seen.{heldAt, heldSeen};
 
@@ -47,6 +51,8 @@ fn has_shape(shape: Shape, s: &[u8]) -> bool
         Shape::Iban => is_iban(s),
         Shape::Account => matches(b"#######^^^", s),
         Shape::Original => names_pacs_008(s),
+        Shape::GroupStatus => matches(b"ACCP", s) | matches(b"RJCT", s),
+        Shape::TransactionStatus => matches(b"RJCT", s),
     }
 }
 
@@ -69,7 +75,32 @@ fn ccy_fits(s: &[u8], wanted: Ccy, given: bool, to: usize) -> bool
     }
 }
 
-// Whether a field goes with the others of its kind, by its number. Document 01 has no rule between two fields.
+// Whether a field of a pacs.002 goes with the others: a TxSts that stands does not go with the GrpSts ACCP.
+fn goes_with_group(
+    s: &[u8],
+    number: usize,
+    counts: &[usize; NODES],
+    starts: &[usize; NODES],
+) -> bool
+    requires { ⌜ (nodes ≤ length (now counts)) × (nodes ≤ length (now starts)) ⌝ }
+    ensures { λ r. ⌜ r ≡ goesWith Pacs002 number (heldSeen (now (s .entry)) Pacs002 (now (counts .entry)) (now (starts .entry))) ⌝ }
+{
+    let numbers = numbers_of(Kind::Pacs002);
+    if number != numbers.transaction {
+        return true;
+    }
+    let transaction = entry_at(Kind::Pacs002, numbers.transaction - 1);
+    let own = transaction.node;
+    if counts[own] == 0 {
+        return true;
+    }
+    let group = entry_at(Kind::Pacs002, numbers.group - 1);
+    let node = group.node;
+    let at = spot_of(s, counts[node], starts[node]);
+    !matches(b"ACCP", shown_at(s, at.start, at.length))
+}
+
+// Whether a field goes with the others of its kind, by its number. Only a pacs.002 has a rule between two fields.
 pub fn goes_with(
     s: &[u8],
     kind: Kind,
@@ -84,6 +115,7 @@ pub fn goes_with(
         Kind::Pacs008 => true,
         Kind::Camt050 => true,
         Kind::Pacs028 => true,
+        Kind::Pacs002 => goes_with_group(s, number, counts, starts),
     }
 }
 

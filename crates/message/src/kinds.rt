@@ -1,4 +1,4 @@
-// The fields of each kind of message: document 01, "Fields". A field's number is its place in the kind's table, from 1 on.
+// The fields of each kind of message: document 01, "Fields", and request 9 of document 02. A field's number is its place in the kind's table, from 1 on.
 // `tests/tree.py` writes each node, of a body and of a field, from the paths in `specs/Fields.antt`.
 use paths::NODES;
 use table::Kind;
@@ -7,7 +7,7 @@ ghost use mathlib.Core.Bool.{cond};
 ghost use Prim.Native.Nat.{_<_, _≤_};
 ghost use lib.ListN.{length, getD};
 ghost use Rattle.paths.specs.Tree.{nodes};
-ghost use Rattle.message.specs.Fields.{noField, pacs008Fields, camt050Fields, pacs028Fields, fieldsOf, fieldsMost, numbersOf};
+ghost use Rattle.message.specs.Fields.{noField, pacs008Fields, camt050Fields, pacs028Fields, pacs002Fields, fieldsOf, fieldsMost, numbersOf};
 ghost use Rattle.message.specs.Seen.{entryOf, kindSeen};
 
 // What a field's text has to be.
@@ -21,6 +21,8 @@ pub enum Shape {
     Iban,
     Account,
     Original,
+    GroupStatus,
+    TransactionStatus,
 }
 
 // Whether a field has a Ccy: none, any, or that of the hryvnia.
@@ -67,6 +69,8 @@ pub struct Numbers {
     pub credit: usize,
     pub original: usize,
     pub originated: usize,
+    pub group: usize,
+    pub transaction: usize,
 }
 
 // How many fields each kind has, and the most that one has.
@@ -75,6 +79,8 @@ const PACS_008_FIELDS: usize = 14;
 const CAMT_050_FIELDS: usize = 6;
 
 const PACS_028_FIELDS: usize = 8;
+
+const PACS_002_FIELDS: usize = 5;
 
 pub const FIELDS_MOST: usize = PACS_008_FIELDS;
 
@@ -85,141 +91,17 @@ const CAMT_050_BODY: usize = 4;
 
 const PACS_028_BODY: usize = 5;
 
+const PACS_002_BODY: usize = 6;
+
 const PACS_008: [Entry; PACS_008_FIELDS] = [
     Entry {
-        node: 12,
+        node: 16,
         optional: false,
         shape: Shape::Identifier,
-        ccy: Ccy::Absent,
-    },
-    Entry {
-        node: 13,
-        optional: false,
-        shape: Shape::Time,
-        ccy: Ccy::Absent,
-    },
-    Entry {
-        node: 59,
-        optional: false,
-        shape: Shape::Code,
-        ccy: Ccy::Absent,
-    },
-    Entry {
-        node: 60,
-        optional: false,
-        shape: Shape::Code,
-        ccy: Ccy::Absent,
-    },
-    Entry {
-        node: 34,
-        optional: false,
-        shape: Shape::Identifier,
-        ccy: Ccy::Absent,
-    },
-    Entry {
-        node: 35,
-        optional: false,
-        shape: Shape::Uetr,
         ccy: Ccy::Absent,
     },
     Entry {
         node: 17,
-        optional: false,
-        shape: Shape::Amount,
-        ccy: Ccy::Hryvnia,
-    },
-    Entry {
-        node: 61,
-        optional: true,
-        shape: Shape::Code,
-        ccy: Ccy::Absent,
-    },
-    Entry {
-        node: 69,
-        optional: false,
-        shape: Shape::System,
-        ccy: Ccy::Absent,
-    },
-    Entry {
-        node: 63,
-        optional: false,
-        shape: Shape::Code,
-        ccy: Ccy::Absent,
-    },
-    Entry {
-        node: 53,
-        optional: false,
-        shape: Shape::Iban,
-        ccy: Ccy::Absent,
-    },
-    Entry {
-        node: 70,
-        optional: false,
-        shape: Shape::System,
-        ccy: Ccy::Absent,
-    },
-    Entry {
-        node: 65,
-        optional: false,
-        shape: Shape::Code,
-        ccy: Ccy::Absent,
-    },
-    Entry {
-        node: 55,
-        optional: false,
-        shape: Shape::Iban,
-        ccy: Ccy::Absent,
-    },
-];
-
-const CAMT_050: [Entry; CAMT_050_FIELDS] = [
-    Entry {
-        node: 23,
-        optional: false,
-        shape: Shape::Identifier,
-        ccy: Ccy::Absent,
-    },
-    Entry {
-        node: 24,
-        optional: false,
-        shape: Shape::Time,
-        ccy: Ccy::Absent,
-    },
-    Entry {
-        node: 41,
-        optional: false,
-        shape: Shape::Uetr,
-        ccy: Ccy::Absent,
-    },
-    Entry {
-        node: 42,
-        optional: false,
-        shape: Shape::Amount,
-        ccy: Ccy::Any,
-    },
-    Entry {
-        node: 71,
-        optional: false,
-        shape: Shape::Account,
-        ccy: Ccy::Absent,
-    },
-    Entry {
-        node: 72,
-        optional: false,
-        shape: Shape::Account,
-        ccy: Ccy::Absent,
-    },
-];
-
-const PACS_028: [Entry; PACS_028_FIELDS] = [
-    Entry {
-        node: 26,
-        optional: false,
-        shape: Shape::Identifier,
-        ccy: Ccy::Absent,
-    },
-    Entry {
-        node: 27,
         optional: false,
         shape: Shape::Time,
         ccy: Ccy::Absent,
@@ -231,33 +113,192 @@ const PACS_028: [Entry; PACS_028_FIELDS] = [
         ccy: Ccy::Absent,
     },
     Entry {
-        node: 46,
+        node: 69,
+        optional: false,
+        shape: Shape::Code,
+        ccy: Ccy::Absent,
+    },
+    Entry {
+        node: 43,
         optional: false,
         shape: Shape::Identifier,
         ccy: Ccy::Absent,
     },
     Entry {
-        node: 47,
-        optional: false,
-        shape: Shape::Original,
-        ccy: Ccy::Absent,
-    },
-    Entry {
-        node: 48,
-        optional: false,
-        shape: Shape::Time,
-        ccy: Ccy::Absent,
-    },
-    Entry {
-        node: 30,
+        node: 44,
         optional: false,
         shape: Shape::Uetr,
         ccy: Ccy::Absent,
     },
     Entry {
-        node: 31,
+        node: 21,
+        optional: false,
+        shape: Shape::Amount,
+        ccy: Ccy::Hryvnia,
+    },
+    Entry {
+        node: 70,
+        optional: true,
+        shape: Shape::Code,
+        ccy: Ccy::Absent,
+    },
+    Entry {
+        node: 78,
+        optional: false,
+        shape: Shape::System,
+        ccy: Ccy::Absent,
+    },
+    Entry {
+        node: 72,
+        optional: false,
+        shape: Shape::Code,
+        ccy: Ccy::Absent,
+    },
+    Entry {
+        node: 62,
+        optional: false,
+        shape: Shape::Iban,
+        ccy: Ccy::Absent,
+    },
+    Entry {
+        node: 79,
+        optional: false,
+        shape: Shape::System,
+        ccy: Ccy::Absent,
+    },
+    Entry {
+        node: 74,
+        optional: false,
+        shape: Shape::Code,
+        ccy: Ccy::Absent,
+    },
+    Entry {
+        node: 64,
+        optional: false,
+        shape: Shape::Iban,
+        ccy: Ccy::Absent,
+    },
+];
+
+const CAMT_050: [Entry; CAMT_050_FIELDS] = [
+    Entry {
+        node: 27,
         optional: false,
         shape: Shape::Identifier,
+        ccy: Ccy::Absent,
+    },
+    Entry {
+        node: 28,
+        optional: false,
+        shape: Shape::Time,
+        ccy: Ccy::Absent,
+    },
+    Entry {
+        node: 50,
+        optional: false,
+        shape: Shape::Uetr,
+        ccy: Ccy::Absent,
+    },
+    Entry {
+        node: 51,
+        optional: false,
+        shape: Shape::Amount,
+        ccy: Ccy::Any,
+    },
+    Entry {
+        node: 80,
+        optional: false,
+        shape: Shape::Account,
+        ccy: Ccy::Absent,
+    },
+    Entry {
+        node: 81,
+        optional: false,
+        shape: Shape::Account,
+        ccy: Ccy::Absent,
+    },
+];
+
+const PACS_028: [Entry; PACS_028_FIELDS] = [
+    Entry {
+        node: 30,
+        optional: false,
+        shape: Shape::Identifier,
+        ccy: Ccy::Absent,
+    },
+    Entry {
+        node: 31,
+        optional: false,
+        shape: Shape::Time,
+        ccy: Ccy::Absent,
+    },
+    Entry {
+        node: 77,
+        optional: false,
+        shape: Shape::Code,
+        ccy: Ccy::Absent,
+    },
+    Entry {
+        node: 55,
+        optional: false,
+        shape: Shape::Identifier,
+        ccy: Ccy::Absent,
+    },
+    Entry {
+        node: 56,
+        optional: false,
+        shape: Shape::Original,
+        ccy: Ccy::Absent,
+    },
+    Entry {
+        node: 57,
+        optional: false,
+        shape: Shape::Time,
+        ccy: Ccy::Absent,
+    },
+    Entry {
+        node: 34,
+        optional: false,
+        shape: Shape::Uetr,
+        ccy: Ccy::Absent,
+    },
+    Entry {
+        node: 35,
+        optional: false,
+        shape: Shape::Identifier,
+        ccy: Ccy::Absent,
+    },
+];
+
+const PACS_002: [Entry; PACS_002_FIELDS] = [
+    Entry {
+        node: 36,
+        optional: false,
+        shape: Shape::Identifier,
+        ccy: Ccy::Absent,
+    },
+    Entry {
+        node: 37,
+        optional: false,
+        shape: Shape::Time,
+        ccy: Ccy::Absent,
+    },
+    Entry {
+        node: 38,
+        optional: false,
+        shape: Shape::Identifier,
+        ccy: Ccy::Absent,
+    },
+    Entry {
+        node: 39,
+        optional: false,
+        shape: Shape::GroupStatus,
+        ccy: Ccy::Absent,
+    },
+    Entry {
+        node: 40,
+        optional: true,
+        shape: Shape::TransactionStatus,
         ccy: Ccy::Absent,
     },
 ];
@@ -285,6 +326,8 @@ const PACS_008_NUMBERS: Numbers = Numbers {
     credit: 0,
     original: 0,
     originated: 0,
+    group: 0,
+    transaction: 0,
 };
 
 const CAMT_050_NUMBERS: Numbers = Numbers {
@@ -303,6 +346,8 @@ const CAMT_050_NUMBERS: Numbers = Numbers {
     credit: 6,
     original: 0,
     originated: 0,
+    group: 0,
+    transaction: 0,
 };
 
 const PACS_028_NUMBERS: Numbers = Numbers {
@@ -321,6 +366,28 @@ const PACS_028_NUMBERS: Numbers = Numbers {
     credit: 0,
     original: 4,
     originated: 6,
+    group: 0,
+    transaction: 0,
+};
+
+const PACS_002_NUMBERS: Numbers = Numbers {
+    id: 1,
+    created: 2,
+    instructing: 0,
+    instructed: 0,
+    reference: 0,
+    uetr: 0,
+    amount: 0,
+    previous: 0,
+    debtor: AgentNumbers { system: 0, code: 0 },
+    creditor: AgentNumbers { system: 0, code: 0 },
+    iban: 0,
+    debit: 0,
+    credit: 0,
+    original: 3,
+    originated: 0,
+    group: 4,
+    transaction: 5,
 };
 
 fn pacs_008(place: usize) -> Entry
@@ -344,6 +411,13 @@ fn pacs_028(place: usize) -> Entry
     PACS_028[place]
 }
 
+fn pacs_002(place: usize) -> Entry
+    requires { ⌜ place < length pacs002Fields ⌝ }
+    ensures { λ r. ⌜ r ≡ entryOf (getD pacs002Fields place noField) ⌝ }
+{
+    PACS_002[place]
+}
+
 // How many fields a kind has.
 pub fn field_count(kind: Kind) -> usize
     ensures { λ r. ⌜ r ≡ length (fieldsOf kind) ⌝ }
@@ -353,6 +427,7 @@ pub fn field_count(kind: Kind) -> usize
         Kind::Pacs008 => PACS_008_FIELDS,
         Kind::Camt050 => CAMT_050_FIELDS,
         Kind::Pacs028 => PACS_028_FIELDS,
+        Kind::Pacs002 => PACS_002_FIELDS,
     }
 }
 
@@ -366,6 +441,7 @@ pub fn entry_at(kind: Kind, place: usize) -> Entry
         Kind::Pacs008 => pacs_008(place),
         Kind::Camt050 => camt_050(place),
         Kind::Pacs028 => pacs_028(place),
+        Kind::Pacs002 => pacs_002(place),
     }
 }
 
@@ -377,6 +453,7 @@ pub fn numbers_of(kind: Kind) -> Numbers
         Kind::Pacs008 => PACS_008_NUMBERS,
         Kind::Camt050 => CAMT_050_NUMBERS,
         Kind::Pacs028 => PACS_028_NUMBERS,
+        Kind::Pacs002 => PACS_002_NUMBERS,
     }
 }
 
@@ -396,6 +473,9 @@ pub fn kind_of(bodies: usize, counts: &[usize; NODES]) -> Body
     }
     if counts[PACS_028_BODY] == 1 {
         return Body::Of(Kind::Pacs028);
+    }
+    if counts[PACS_002_BODY] == 1 {
+        return Body::Of(Kind::Pacs002);
     }
     Body::Unknown
 }

@@ -1,4 +1,4 @@
-// The message that a sheet is: its kind and its fields, or the refusal by 7 or 8. Document 01, "Fields".
+// The message that a sheet is: its kind and its fields, or the refusal by 7 or 8. Document 01, "Fields", and request 9 of document 02.
 // It knows nothing of rooms, participants and checks. The tables of fields stand in `specs/Fields.antt`, what the rows of a sheet say in
 // `specs/Held.antt`, when a field is bad in `specs/Good.antt`, what a message is in `specs/Message.antt`, what a sheet is due as
 // an answer in `specs/Due.antt`, and how the answer is worked out in `specs/Received.antt`.
@@ -30,6 +30,7 @@ use shape::field::code_of;
 use shape::field::currency_of;
 use shape::field::message_code_of;
 use shape::field::system_of;
+use shape::pattern::matches;
 use shape::stored::Identifier;
 use shape::stored::Uetr;
 use shape::stored::identifier_of;
@@ -45,7 +46,7 @@ ghost use Rattle.paths.specs.Tree.{nodes};
 ghost use Rattle.message.specs.Fields.{fieldsMost, numbersOf};
 ghost use Rattle.shape.specs.Fields.{currencyOf};
 ghost use Rattle.message.specs.Good.{lowestBad};
-ghost use Rattle.message.specs.Message.{nameOf, agentOf, startIn, lengthIn, ccyIn, numbered, messageFrom};
+ghost use Rattle.message.specs.Message.{nameOf, agentOf, replyOf, startIn, lengthIn, ccyIn, numbered, messageFrom};
 ghost use Rattle.message.specs.Received.{refusal, byNumber, receivedIn, receivedOf, shownIn, fieldShown, fieldOf};
 ghost use Rattle.message.specs.Seen.{heldSeen};
 
@@ -61,7 +62,15 @@ pub struct Agent {
     pub code: Value,
 }
 
-// A message. A part that its kind lacks, and PrvsInstgAgt1 where it is not given, is None, Neither, NoIban or zeros.
+// What a pacs.002 says of the transfer that it answers: it is accepted, declined as a technical refusal, or the client is not credited.
+pub enum Reply {
+    NoReply,
+    Accepts,
+    Declines,
+    Refuses,
+}
+
+// A message. A part that its kind lacks, and PrvsInstgAgt1 where it is not given, is None, Neither, NoIban, NoReply or zeros.
 pub struct Message {
     pub kind: Kind,
     // MsgId
@@ -92,6 +101,8 @@ pub struct Message {
     pub original: Name,
     // OrgnlCreDtTm
     pub originated: Value,
+    // GrpSts and TxSts
+    pub reply: Reply,
 }
 
 // What a sheet is: refused by 7 with its place, refused by 8 with a field's number, or a message.
@@ -214,6 +225,22 @@ fn agent_of(system: &[u8], code: &[u8]) -> Agent
     }
 }
 
+// What GrpSts and TxSts say together.
+fn reply_of(group: &[u8], transaction: &[u8]) -> Reply
+    ensures { λ r. ⌜ r ≡ replyOf (now (group .entry)) (now (transaction .entry)) ⌝ }
+{
+    if matches(b"ACCP", group) {
+        return Reply::Accepts;
+    }
+    if !matches(b"RJCT", group) {
+        return Reply::NoReply;
+    }
+    if transaction.len() == 0 {
+        return Reply::Declines;
+    }
+    Reply::Refuses
+}
+
 // The message, by the places of its fields' texts. A text's characters are its own bytes.
 fn message_of(
     s: &[u8],
@@ -250,6 +277,10 @@ fn message_of(
         credit: account_of(shown(s, at, long, numbers.credit)),
         original: name_of(shown(s, at, long, numbers.original)),
         originated: time_of(shown(s, at, long, numbers.originated)),
+        reply: reply_of(
+            shown(s, at, long, numbers.group),
+            shown(s, at, long, numbers.transaction),
+        ),
     }
 }
 

@@ -2,7 +2,7 @@
 -- Which nodes are the fields of which kind is said in the crate of messages, by their paths, and checked against this tree there: a reader who
 -- believes that table need not read this one. That no two paths have one node is a theorem (`proofs/Nodes.antt`).
 -- `tests/tree.py` writes the numbers and the two tables from that crate's paths.
-use mathlib.Core.Bool.{Bool, true, false, cond}
+use mathlib.Core.Bool.{cond}
 use mathlib.Core.List.{List, [], _∷_}
 use Prim.Native.Nat.{ℕ, zero, suc, _-_}
 use lib.Dec.{eqb}
@@ -19,7 +19,7 @@ above = 1
 
 -- how many nodes there are, these two among them
 abbrev pub nodes : ℕ
-nodes = 73
+nodes = 82
 
 -- the bytes of a name with the blanks after it, of which there is one at least
 abbrev pub nameWide : ℕ
@@ -34,12 +34,16 @@ names =
     ∷ bytes "FIToFICstmrCdtTrf "
     ∷ bytes "LqdyCdtTrf        "
     ∷ bytes "FIToFIPmtStsReq   "
+    ∷ bytes "FIToFIPmtStsRpt   "
     ∷ bytes "GrpHdr            "
     ∷ bytes "CdtTrfTxInf       "
     ∷ bytes "MsgHdr            "
     ∷ bytes "LqdyCdtTrf        "
     ∷ bytes "GrpHdr            "
     ∷ bytes "TxInf             "
+    ∷ bytes "GrpHdr            "
+    ∷ bytes "OrgnlGrpInfAndSts "
+    ∷ bytes "TxInfAndSts       "
     ∷ bytes "MsgId             "
     ∷ bytes "CreDtTm           "
     ∷ bytes "InstgAgt          "
@@ -60,6 +64,11 @@ names =
     ∷ bytes "OrgnlGrpInf       "
     ∷ bytes "OrgnlUETR         "
     ∷ bytes "OrgnlEndToEndId   "
+    ∷ bytes "MsgId             "
+    ∷ bytes "CreDtTm           "
+    ∷ bytes "OrgnlMsgId        "
+    ∷ bytes "GrpSts            "
+    ∷ bytes "TxSts             "
     ∷ bytes "FinInstnId        "
     ∷ bytes "FinInstnId        "
     ∷ bytes "EndToEndId        "
@@ -106,10 +115,10 @@ names =
 -- the first node below each node; those below node v end where those below node v + 1 begin
 unfoldable pub firsts : List ℕ
 firsts =
-    2 ∷ 2 ∷ 3 ∷ 6 ∷ 8 ∷ 10 ∷ 12 ∷ 16 ∷ 23 ∷ 25 ∷ 26 ∷ 29 ∷ 32 ∷ 32 ∷ 32 ∷ 33 ∷ 34 ∷ 36 ∷ 36 ∷ 37 ∷ 38 ∷ 39 ∷ 40 ∷ 41 ∷
-    41 ∷ 41 ∷ 45 ∷ 45 ∷ 45 ∷ 46 ∷ 49 ∷ 49 ∷ 49 ∷ 50 ∷ 51 ∷ 51 ∷ 51 ∷ 52 ∷ 53 ∷ 54 ∷ 55 ∷ 56 ∷ 56 ∷ 56 ∷ 57 ∷ 58 ∷ 59 ∷
-    59 ∷ 59 ∷ 59 ∷ 60 ∷ 61 ∷ 62 ∷ 64 ∷ 64 ∷ 66 ∷ 66 ∷ 67 ∷ 68 ∷ 69 ∷ 69 ∷ 69 ∷ 69 ∷ 70 ∷ 70 ∷ 71 ∷ 71 ∷ 72 ∷ 73 ∷ 73 ∷
-    73 ∷ 73 ∷ 73 ∷ 73 ∷ []
+    2 ∷ 2 ∷ 3 ∷ 7 ∷ 9 ∷ 11 ∷ 13 ∷ 16 ∷ 20 ∷ 27 ∷ 29 ∷ 30 ∷ 33 ∷ 36 ∷ 38 ∷ 40 ∷ 41 ∷ 41 ∷ 41 ∷ 42 ∷ 43 ∷ 45 ∷ 45 ∷ 46 ∷
+    47 ∷ 48 ∷ 49 ∷ 50 ∷ 50 ∷ 50 ∷ 54 ∷ 54 ∷ 54 ∷ 55 ∷ 58 ∷ 58 ∷ 58 ∷ 58 ∷ 58 ∷ 58 ∷ 58 ∷ 58 ∷ 59 ∷ 60 ∷ 60 ∷ 60 ∷ 61 ∷
+    62 ∷ 63 ∷ 64 ∷ 65 ∷ 65 ∷ 65 ∷ 66 ∷ 67 ∷ 68 ∷ 68 ∷ 68 ∷ 68 ∷ 69 ∷ 70 ∷ 71 ∷ 73 ∷ 73 ∷ 75 ∷ 75 ∷ 76 ∷ 77 ∷ 78 ∷ 78 ∷
+    78 ∷ 78 ∷ 79 ∷ 79 ∷ 80 ∷ 80 ∷ 81 ∷ 82 ∷ 82 ∷ 82 ∷ 82 ∷ 82 ∷ 82 ∷ []
 
 -- the bytes before the first blank
 abbrev pub beforeBlank : List ℕ → List ℕ

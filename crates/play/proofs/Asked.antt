@@ -3,7 +3,7 @@
 use mathlib.Core.Path.{_≡_, sym, ap, _∙_}
 use mathlib.Core.Bool.{Bool, true, false, not}
 use mathlib.Core.List.{List}
-use Prim.Native.Nat.{ℕ, _<_}
+use Prim.Native.Nat.{ℕ, _<_, _≤_}
 use native.Mathlib.Omega.{arith}
 use lib.ListN.{length}
 use borrow.Author.Tests.{not-false}
@@ -25,6 +25,11 @@ module _ (s : List ℕ) (b : Bool) (e : b ≡ seatFits s) (t : not b ≡ false) 
 
   pub long : length s ≡ seatLong
   long = fit-long s fits
+
+  -- to ask whether a step is possible
+  pub possible-asks : (h : Head) → h ≡ headOf s → h .steps < steps → (length s ≡ seatLong) × (headOf s .steps ≤ steps)
+  possible-asks h k few =
+      let count : h .steps ≡ headOf s .steps = ap (λ (y : Head). y .steps) k in (long, omega (arith, count, few))
 
   -- to record a step
   pub step-asks : (h : Head) → h ≡ headOf s → h .opened ≡ 1 → h .steps < steps → (x : Step) (p : Bool) → p ≡ possible x s → not p ≡ false

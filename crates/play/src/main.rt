@@ -186,6 +186,8 @@ fn transfer(id: Identifier, uetr: Uetr, amount: u64) -> Step {
         account: 0,
         old: nothing(),
         given: nothing(),
+        receiver: 0,
+        answers: 0,
     }
 }
 

@@ -3,7 +3,7 @@
 use mathlib.Core.Path.{_≡_, refl, ap, subst, _∙_}
 use mathlib.Core.Bool.{Bool, true, false, _&&_}
 use mathlib.Core.List.{List, [], _∷_}
-use Prim.Native.Nat.{ℕ, suc, _+_, _≤_, _<_}
+use Prim.Native.Nat.{ℕ, suc, _+_, _-_, _≤_, _<_}
 use native.Mathlib.Omega.{arith}
 use native.Mathlib.Numerals.{add-one}
 use lib.Dec.{eqb}
@@ -58,7 +58,7 @@ unfolding headOf headIn part
 first-number [] = refl
 first-number (a ∷ s) = refl
 
-closed-zeros : (a : ℕ) (s : List ℕ) → length s ≡ 922 → same (a ∷ s) (closedSeat a) ≡ every isZero s
+closed-zeros : (a : ℕ) (s : List ℕ) → length s ≡ seatLong - 1 → same (a ∷ s) (closedSeat a) ≡ every isZero s
 unfolding same closedSeat headRow
 closed-zeros a s l =
     rw (eq-eqb a a refl) (subst (λ (n : ℕ). same s (replicate n 0) ≡ every isZero s) l (zeros s))

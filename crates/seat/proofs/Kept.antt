@@ -8,22 +8,21 @@ use Prim.Native.Nat.{ℕ, suc, _*_, _≤_, _<_}
 use native.Mathlib.Omega.{arith}
 use lib.Dec.{leb, eqb}
 use lib.ListN.{length, replicate}
-use borrow.Author.Tests.{ltb-true, lt-ltb, leb-true, eqb-true, eq-eqb}
+use borrow.Author.Tests.{leb-true, eqb-true, eq-eqb}
 use Rattle.shape.specs.Bytes.{every}
-use Rattle.shape.specs.Stored.{sameIdentifier}
-use Rattle.shape.proofs.Tests.{and-left, and-right, or-cases}
+use Rattle.shape.proofs.Tests.{and-left, and-right}
 use Rattle.slip.specs.Meaning.{openings, steps}
 use Rattle.directory.specs.declared.Participant.{Participant}
 use Rattle.directory.specs.declared.Found.{Found}
-use Rattle.directory.specs.declared.Found.the-variants.{At, Missing}
 use Rattle.directory.specs.Directory.{recordsMost, isOwner}
 use Rattle.layout.specs.declared.rows.Head.{Head}
 use Rattle.layout.specs.declared.rows.Settings.{Settings}
 use Rattle.layout.specs.declared.rows.Step.{Step}
 use Rattle.layout.specs.Parts.{part}
 use Rattle.layout.specs.Rows.{headRow, headIn}
-use Rattle.layout.specs.Seat.{places, accounts, seatLong, roomLong, headOf, accountOf, seatOf}
-use Rattle.journal.specs.Steps.{sumMost, settingsFit, noMessage, noMovement, setFits, stepFits}
+use Rattle.layout.specs.Seat.{accounts, seatLong, roomLong, headOf, accountOf, seatOf}
+use Rattle.journal.specs.Steps.{sumMost, settingsFit}
+use Rattle.journal.specs.Answers.{answerable}
 use Rattle.journal.specs.Working.{stepped, backed, covered, possible, journalOf}
 use Rattle.journal.proofs.StepLaws.{settings-same}
 use Rattle.journal.proofs.WorkedLaws.{journal-long}
@@ -36,7 +35,6 @@ use Rattle.seat.specs.Calls.{
   openAfter,
   closeAnswer,
   closeAfter,
-  accountNamed,
   accountNumber,
   placeFits,
   setStep,
@@ -163,9 +161,9 @@ set-covered i given s = settings-same (accountOf s i .settings)
 
 set-possible : (i : ℕ) (given : Settings) (s : List ℕ) → length s ≡ seatLong → openFits s ≡ true → i < accounts → settingsFit given ≡ true
     → possible (setStep i (accountOf s i .settings) given) s ≡ true
-unfolding possible
+unfolding possible answerable
 set-possible i given s l e b f =
-    rw (set-step-fits i (accountOf s i .settings) given b (fit-settings s l e i b) f) (set-covered i given s)
+    rw (set-step-fits i (accountOf s i .settings) given b (fit-settings s l e i b) f, set-covered i given s)
 
 -- a set that was done was a possible step of an open seat with a free place
 module _ (opening : ℕ) (owner : Found) (number : ℕ) (given : Settings) (s : List ℕ) (p : placeFits owner ≡ true) (e : seatFits s ≡ true)

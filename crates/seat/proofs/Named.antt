@@ -15,7 +15,7 @@ use Rattle.directory.specs.declared.Found.the-variants.{At, Missing}
 use Rattle.directory.specs.Directory.{ownerFound}
 use Rattle.layout.specs.declared.rows.Settings.{Settings}
 use Rattle.layout.specs.Seat.{places, accounts}
-use Rattle.journal.specs.Steps.{settingsFit, noMessage, noMovement, setFits, stepFits}
+use Rattle.journal.specs.Steps.{settingsFit, noMessage, noUetr, noMovement, setFits, stepFits}
 use Rattle.seat.specs.Calls.{accountNamed, accountNumber, accountFound, placeFits, setStep}
 
 pub place-low : (f : Found) (place : ℕ) (p : Participant) → f ≡ At place p → placeFits f ≡ true → place < places
@@ -61,5 +61,5 @@ account-found-low owner number i p e = go (accountNamed owner number) refl e
 -- a set of an account from settings that fit to settings that fit
 pub set-step-fits : (account : ℕ) (old given : Settings) → account < accounts → settingsFit old ≡ true → settingsFit given ≡ true
     → stepFits (setStep account old given) ≡ true
-unfolding stepFits setFits noMessage noMovement sameIdentifier
+unfolding stepFits setFits noMessage noUetr noMovement sameIdentifier
 set-step-fits account old given h o g = rw (lt-ltb account accounts h, o, g)

@@ -162,6 +162,8 @@ setStep account old given = record {
   account = account;
   old = old;
   given = given;
+  receiver = 0;
+  answers = 0;
 }
 
 unfoldable pub setAnswer : ℕ → Found → ℕ → Settings → List ℕ → Answer

@@ -229,6 +229,8 @@ fn set_step(account: u64, old: Settings, given: Settings) -> Step
         account,
         old,
         given,
+        receiver: 0,
+        answers: 0,
     }
 }
 

@@ -1,6 +1,6 @@
 -- The measures of the two forms as the code works with them: they are small, and the bits that they cut out are those of the definition.
 -- Assumes nothing.
-use mathlib.Core.Path.{_≡_, refl, _∙_}
+use mathlib.Core.Path.{_≡_, _∙_}
 use mathlib.Core.Bool.{and-true}
 use Prim.Native.Nat.{ℕ, _+_, _*_, _/_, _%_, _^_, _<_, _≤_}
 use native.Mathlib.Omega.{arith}
@@ -10,13 +10,8 @@ use lib.Pow.{pow-pos, shl-exact}
 use Rattle.slip.specs.declared.Form.{Form}
 use Rattle.slip.specs.declared.Form.the-variants.{FiveBytes, SixBytes}
 use Rattle.slip.specs.declared.Slip.{Slip}
-use Rattle.slip.specs.Meaning.{slipLong, sayings, measures}
+use Rattle.slip.specs.Meaning.{slipLong, measures}
 use Rattle.slip.specs.Image.{heldIn, spareZero}
-
--- both forms may say the same
-pub same-sayings : (form : Form) → measures form .sayings ≡ sayings
-same-sayings FiveBytes = refl
-same-sayings SixBytes = refl
 
 -- no form has more bytes than what is written
 pub long-most : (form : Form) (n : ℕ) → n ≡ measures form .long → n ≤ slipLong

@@ -15,7 +15,8 @@ use Rattle.shape.proofs.Tests.{and-left, and-right}
 use Rattle.slip.specs.declared.Slip.{Slip}
 use Rattle.slip.specs.declared.Form.{Form}
 use Rattle.slip.specs.declared.Form.the-variants.{FiveBytes, SixBytes}
-use Rattle.slip.specs.Meaning.{kindNumber, statusNumber, openings, steps, sayings, saysIn, Widths, Measures, fiveBytes, sixBytes, measures, isSlipIn}
+use Rattle.slip.specs.Meaning.{kindNumber, statusNumber, openings, steps, eitherSays, sixAloneSays, sayings, saysIn}
+use Rattle.slip.specs.Meaning.{Widths, Measures, fiveBytes, sixBytes, measures, isSlipIn}
 use Rattle.slip.specs.Image.{byteWide, spareFields, widthsIn, fieldsIn, Fits}
 use Rattle.slip.proofs.Meanings.{ofSaying, of-sayings}
 
@@ -31,7 +32,7 @@ pub record Sound (form : Measures) : Type 0 where
   pub step : steps < 2 ^ form .widths .step
 
 pub sound : (form : Form) → Sound (measures form)
-unfolding sayings kindNumber statusNumber
+unfolding sayings eitherSays sixAloneSays kindNumber statusNumber
 sound FiveBytes = record { filled = refl; said = refl; seat = lit< tt; opening = lit< tt; step = lit< tt }
 sound SixBytes = record { filled = refl; said = refl; seat = lit< tt; opening = lit< tt; step = lit< tt }
 
@@ -97,7 +98,7 @@ fields-small form s f = (f .kind, (f .status, (f .check, (f .seat, (f .opening, 
 
 -- what five bytes can say six can
 pub five-in-six : (s : Slip) → isSlipIn fiveBytes s ≡ true → isSlipIn sixBytes s ≡ true
-unfolding sayings kindNumber statusNumber
+unfolding sayings eitherSays sixAloneSays kindNumber statusNumber
 five-in-six s e =
     let h = slip-tests fiveBytes s e in
     let says = of-sayings (saysIn (sixBytes .sayings)) (fiveBytes .sayings) refl (s .kind) (s .status) (s .check) (h .said) in

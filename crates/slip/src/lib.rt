@@ -1,5 +1,6 @@
 // The slip that the centre answers with: bytes that say the kind of message, how it ended, by which check, and the seat, the opening and the
-// step it belongs to. Writing and reading one, and what a slip can say at all: document 01, "The slip", and request 8 of document 02.
+// step it belongs to. Writing and reading one, and what a slip can say at all: document 01, "The slip", and requests 8 and 9 of
+// document 02.
 // Six bytes are written; five bytes, which lie in mark books, are read as well. It knows nothing of rooms.
 // The definitions stand in `specs/`: what a slip means in each form, its bits, and what the two calls answer.
 use table::CHECKS_MOST;
@@ -8,8 +9,8 @@ ghost use mathlib.Core.Path.{_≡_};
 ghost use Prim.Native.Nat.{_<_, _≤_, _^_};
 ghost use lib.ListN.{length};
 ghost use Rattle.table.specs.Checks.{checksMost, isIn};
-ghost use Rattle.slip.specs.Meaning.{kindNumber, statusNumber, slipLong, pacs008Checks, camt050Checks, pacs028Checks, says};
-ghost use Rattle.slip.specs.Meaning.{sixBytes, measures, formOf, isSlipIn};
+ghost use Rattle.slip.specs.Meaning.{kindNumber, statusNumber, slipLong, pacs008Checks, camt050Checks, pacs028Checks, pacs002Checks};
+ghost use Rattle.slip.specs.Meaning.{eitherSays, sixAloneSays, saysIn, sixBytes, measures, formOf, isSlipIn};
 ghost use Rattle.slip.specs.Image.{byteWide, Fits, slipNumber, heldIn, spareZero, bytesNumber};
 ghost use Rattle.slip.specs.Answers.{writeAnswer, writeAfter, readAnswer};
 
@@ -18,6 +19,7 @@ pub enum Status {
     Pdng,
     Accc,
     Rjct,
+    Waits,
 }
 
 // The six values of a slip, as numbers.
@@ -65,11 +67,15 @@ const CAMT_050: u64 = 2;
 
 const PACS_028: u64 = 3;
 
+const PACS_002: u64 = 4;
+
 const PDNG: u64 = 0;
 
 const ACCC: u64 = 1;
 
 const RJCT: u64 = 2;
+
+const WAITS: u64 = 3;
 
 // How many bits each value has in six bytes, the most significant first.
 const KIND_WIDE: u64 = 3;
@@ -108,6 +114,7 @@ pub fn kind_number(kind: Kind) -> u64
         Kind::Pacs008 => PACS_008,
         Kind::Camt050 => CAMT_050,
         Kind::Pacs028 => PACS_028,
+        Kind::Pacs002 => PACS_002,
     }
 }
 
@@ -118,10 +125,11 @@ pub fn status_number(status: Status) -> u64
         Status::Pdng => PDNG,
         Status::Accc => ACCC,
         Status::Rjct => RJCT,
+        Status::Waits => WAITS,
     }
 }
 
-// Whether a slip of a pacs.008, a camt.050 or a pacs.028 may name a check. Who fails check 1 or 2 gets no slip.
+// Whether a slip of a kind may name a check. Who fails check 1 or 2 gets no slip.
 fn of_pacs_008(check: u64) -> bool
     requires { ⌜ check ≤ checksMost ⌝ }
     ensures { λ r. ⌜ r ≡ isIn check pacs008Checks ⌝ }
@@ -143,9 +151,19 @@ fn of_pacs_028(check: u64) -> bool
     (check == 3) | ((5 <= check) & (check <= 11))
 }
 
-// Whether a slip of a kind can say this: a line for each kind and status that go together.
-pub fn can_say(kind: u64, status: u64, check: u64) -> bool
-    ensures { λ r. ⌜ r ≡ says kind status check ⌝ }
+fn of_pacs_002(check: u64) -> bool
+    requires { ⌜ check ≤ checksMost ⌝ }
+    ensures { λ r. ⌜ r ≡ isIn check pacs002Checks ⌝ }
+{
+    (check == 3)
+        | ((5 <= check) & (check <= 7))
+        | ((20 <= check) & (check <= 24))
+        | ((35 <= check) & (check <= 37))
+}
+
+// Whether a slip of either form can say this: a line for each kind and status that go together.
+fn either_says(kind: u64, status: u64, check: u64) -> bool
+    ensures { λ r. ⌜ r ≡ saysIn eitherSays kind status check ⌝ }
 {
     if CHECKS_MOST < check {
         return false;
@@ -160,6 +178,31 @@ pub fn can_say(kind: u64, status: u64, check: u64) -> bool
         | ((kind == PACS_028) & (status == PDNG) & in_pacs_028)
         | ((kind == PACS_028) & (status == ACCC) & (check == 0))
         | ((kind == PACS_028) & (status == RJCT) & in_pacs_008)
+}
+
+// Whether a slip of six bytes can say this and one of five bytes cannot.
+fn six_alone_says(kind: u64, status: u64, check: u64) -> bool
+    ensures { λ r. ⌜ r ≡ saysIn sixAloneSays kind status check ⌝ }
+{
+    if CHECKS_MOST < check {
+        return false;
+    }
+    let in_pacs_002 = of_pacs_002(check);
+    ((kind == PACS_008) & (status == WAITS) & (check == 0))
+        | ((kind == PACS_028) & (status == RJCT) & ((check == 36) | (check == 37)))
+        | ((kind == PACS_002) & (status == ACCC) & (check == 0))
+        | ((kind == PACS_002) & (status == RJCT) & in_pacs_002)
+}
+
+// Whether a slip of a form can say this.
+pub fn can_say(form: Form, kind: u64, status: u64, check: u64) -> bool
+    ensures { λ r. ⌜ r ≡ saysIn (measures form .sayings) kind status check ⌝ }
+{
+    let by_either = either_says(kind, status, check);
+    match form {
+        Form::FiveBytes => by_either,
+        Form::SixBytes => by_either | six_alone_says(kind, status, check),
+    }
 }
 
 // The measures in which the forms differ.
@@ -213,7 +256,7 @@ fn form_of(long: usize) -> Form
 pub fn is_slip(form: Form, s: Slip) -> bool
     ensures { λ r. ⌜ r ≡ isSlipIn (measures form) s ⌝ }
 {
-    can_say(s.kind, s.status, s.check)
+    can_say(form, s.kind, s.status, s.check)
         & (s.seat <= seats_in(form) - 1)
         & (1 <= s.opening)
         & (s.opening <= OPENINGS)

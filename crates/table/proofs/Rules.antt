@@ -15,9 +15,9 @@ use Rattle.shape.specs.Numbers.{decimal}
 use Rattle.shape.specs.Patterns.{fits, within}
 use Rattle.shape.specs.Text.{bytes}
 use Rattle.shape.proofs.Tests.{and-left, and-right, or-cases, or-left, or-right, in-range}
-use Rattle.table.specs.Checks.{checksMost, checks, numberIn, isoIn, absent, blank, lineOf, sepOf, isoOf, from, orderOf, isIn, runs}
+use Rattle.table.specs.Checks.{checksMost, checks, numberIn, isoIn, absent, blank, lineOf, sepOf, isoOf, from, rejecting, orderOf, isIn, runs}
 use Rattle.table.specs.declared.Kind.{Kind}
-use Rattle.table.specs.declared.Kind.the-variants.{Pacs008, Camt050, Pacs028}
+use Rattle.table.specs.declared.Kind.the-variants.{Pacs008, Camt050, Pacs028, Pacs002}
 use Rattle.table.proofs.Lines.{each}
 
 -- four capitals or digits
@@ -109,11 +109,17 @@ unfolding orderOf in-table
 orders-in-table Pacs008 = refl
 orders-in-table Camt050 = refl
 orders-in-table Pacs028 = refl
+orders-in-table Pacs002 = refl
 
 -- only checks of the table run
 pub runs-in-table : (kind : Kind) (n : ℕ) → runs kind n ≡ true → (1 ≤ n) × (n ≤ checksMost)
 unfolding runs in-table
 runs-in-table kind n r = in-range 1 checksMost n (of-entry in-table (orderOf kind) (orders-in-table kind) n r)
+
+-- a check that rejects a transfer is one of its answer's
+pub rejecting-runs : (n : ℕ) → isIn n rejecting ≡ true → runs Pacs002 n ≡ true
+unfolding runs orderOf
+rejecting-runs n r = of-entry (λ (k : ℕ). isIn k (orderOf Pacs002)) rejecting refl n r
 
 -- each check that runs for a kind which uses ISO codes has one
 pub iso-given-008 : (n : ℕ) → runs Pacs008 n ≡ true → isCode (isoOf Pacs008 n) ≡ true
@@ -123,6 +129,10 @@ iso-given-008 n r = of-entry (λ (k : ℕ). isCode (isoOf Pacs008 k)) (orderOf P
 pub iso-given-028 : (n : ℕ) → runs Pacs028 n ≡ true → isCode (isoOf Pacs028 n) ≡ true
 unfolding runs orderOf isoOf lineOf checks isDigitOrCapital isDigit isCapital
 iso-given-028 n r = of-entry (λ (k : ℕ). isCode (isoOf Pacs028 k)) (orderOf Pacs028) refl n r
+
+pub iso-given-002 : (n : ℕ) → runs Pacs002 n ≡ true → isCode (isoOf Pacs002 n) ≡ true
+unfolding runs orderOf isoOf lineOf checks isDigitOrCapital isDigit isCapital
+iso-given-002 n r = of-entry (λ (k : ℕ). isCode (isoOf Pacs002 k)) (orderOf Pacs002) refl n r
 
 -- no number of the list is in what follows it
 distinct : List ℕ → Bool
@@ -152,6 +162,7 @@ unfolding orderOf distinct
 orders-distinct Pacs008 = refl
 orders-distinct Camt050 = refl
 orders-distinct Pacs028 = refl
+orders-distinct Pacs002 = refl
 
 -- no check stands twice in an order
 pub order-distinct : (kind : Kind) (i j : ℕ) → i < j → j < length (orderOf kind) → getD (orderOf kind) i 0 ≡ getD (orderOf kind) j 0 → ⊥
@@ -163,3 +174,4 @@ unfolding orderOf
 sender-first Pacs008 = refl
 sender-first Camt050 = refl
 sender-first Pacs028 = refl
+sender-first Pacs002 = refl

@@ -11,6 +11,8 @@ use Rattle.table.proofs.order_at.Reads as order-at-reads
 use Rattle.table.proofs.order_at.Kinds as order-at-kinds
 use Rattle.table.proofs.in_order.Reads as in-order-reads
 use Rattle.table.proofs.in_order.Kinds as in-order-kinds
+use Rattle.table.proofs.is_rejecting.Reads as is-rejecting-reads
+use Rattle.table.proofs.is_rejecting.Kinds as is-rejecting-kinds
 
 pub sep-code : Settled 0 sep-code-kinds.ps sep-code-kinds.r sep-code-reads.Post
 sep-code κs a x y e f = by-equation
@@ -26,3 +28,6 @@ order-at κs a x y e f = by-equation
 
 pub in-order : Settled 0 in-order-kinds.ps in-order-kinds.r in-order-reads.Post
 in-order κs a x y e f = by-equation
+
+pub is-rejecting : Settled 0 is-rejecting-kinds.ps is-rejecting-kinds.r is-rejecting-reads.Post
+is-rejecting κs a x y e f = by-equation

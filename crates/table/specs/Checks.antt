@@ -1,4 +1,5 @@
--- The checks of document 01, "The checks": the one table of all 34 with their codes, the order of each kind, and the ISO code of an answer.
+-- The checks of document 01, "The checks", and of request 9 of document 02: the one table of all 37 with their codes, the order of each kind, and
+-- the ISO code of an answer.
 -- What each check means is said in docs/CHECKS.md, and when it fails in the crate that judges.
 use mathlib.Core.Bool.{Bool, false, _||_, cond}
 use mathlib.Core.List.{List, [], _∷_, _++_}
@@ -8,11 +9,11 @@ use lib.ListN.{getD, take, drop}
 use Rattle.shape.specs.Text.{bytes}
 use Rattle.shape.specs.Numbers.{decimal}
 use Rattle.table.specs.declared.Kind.{Kind}
-use Rattle.table.specs.declared.Kind.the-variants.{Pacs008, Camt050, Pacs028}
+use Rattle.table.specs.declared.Kind.the-variants.{Pacs008, Camt050, Pacs028, Pacs002}
 
 -- how many checks there are, numbered from 1 on
 abbrev pub checksMost : ℕ
-checksMost = 34
+checksMost = 37
 
 -- all checks, a line for each: number, SEP code, ISO code or blanks
 unfoldable pub checks : List (List ℕ)
@@ -51,6 +52,9 @@ checks =
     ∷ bytes "32 H012 RC09"
     ∷ bytes "33 H013 RC09"
     ∷ bytes "34 T003 AC03"
+    ∷ bytes "35 X003 NARR"
+    ∷ bytes "36 TE10 FF10"
+    ∷ bytes "37 X004 NARR"
     ∷ []
 
 -- the columns of a line
@@ -82,6 +86,7 @@ unfoldable pub isoOf : Kind → ℕ → List ℕ
 isoOf Camt050 n = absent
 isoOf Pacs008 n = isoIn (lineOf n)
 isoOf Pacs028 n = isoIn (lineOf n)
+isoOf Pacs002 n = isoIn (lineOf n)
 
 -- so many numbers from a on, and those from a to b
 abbrev pub from : ℕ → ℕ → List ℕ
@@ -92,11 +97,16 @@ infix 70 _to_
 abbrev pub _to_ : ℕ → ℕ → List ℕ
 a to b = from a (suc b - a)
 
--- the checks of a kind of message, in the order in which they run
+-- the checks of a pacs.002 by which the transfer that it answers is rejected; by an earlier one of its order the transfer goes on waiting
+abbrev pub rejecting : List ℕ
+rejecting = 36 ∷ 37 ∷ 20 to 24
+
+-- the checks of a kind of message, in the order in which they run; a pacs.008 moves no money yet, its answer does
 unfoldable pub orderOf : Kind → List ℕ
 orderOf Camt050 = 1 to 5 ++ 7 ∷ 12 to 16 ++ 6 ∷ 17 to 24
 orderOf Pacs028 = 1 ∷ 2 ∷ 3 ∷ 5 to 11
-orderOf Pacs008 = 1 ∷ 2 ∷ 3 ∷ 5 to 8 ++ 17 ∷ 25 ∷ 27 ∷ 26 ∷ 28 to 34 ++ 20 to 24
+orderOf Pacs008 = 1 ∷ 2 ∷ 3 ∷ 5 to 8 ++ 17 ∷ 25 ∷ 27 ∷ 26 ∷ 28 to 34
+orderOf Pacs002 = 1 ∷ 2 ∷ 3 ∷ 5 to 7 ++ 35 ∷ rejecting
 
 -- the number is in the list
 abbrev pub isIn : ℕ → List ℕ → Bool

@@ -1,24 +1,25 @@
-// The 34 checks with their SEP and ISO codes, and the order in which the checks of each kind of message run: document 01, "The checks".
-// It knows nothing of when a check fails. The definitions stand in `specs/Checks.antt`; docs/CHECKS.md says what each check means.
+// The 37 checks with their SEP and ISO codes, and the order in which the checks of each kind of message run: document 01, "The checks", and
+// request 9 of document 02. It knows nothing of when a check fails. The definitions stand in `specs/Checks.antt`; docs/CHECKS.md says what each check means.
 ghost use mathlib.Core.Path.{_≡_};
 ghost use mathlib.Core.List.{[]};
 ghost use Prim.Native.Nat.{_<_, _≤_};
 ghost use lib.ListN.{length, getD};
-ghost use Rattle.table.specs.declared.Kind.the-variants.{Pacs008, Camt050, Pacs028};
-ghost use Rattle.table.specs.Checks.{checksMost, checks, lineOf, sepOf, isoOf, orderOf, runs};
+ghost use Rattle.table.specs.declared.Kind.the-variants.{Pacs008, Camt050, Pacs028, Pacs002};
+ghost use Rattle.table.specs.Checks.{checksMost, checks, lineOf, sepOf, isoOf, rejecting, orderOf, isIn, runs};
 
 // The kinds of messages.
 pub enum Kind {
     Pacs008,
     Camt050,
     Pacs028,
+    Pacs002,
 }
 
 // Four blanks: a code that there is none of.
 pub const ABSENT: [u8; 4] = *b"    ";
 
 // How many checks there are, numbered from 1 on.
-pub const CHECKS_MOST: u64 = 34;
+pub const CHECKS_MOST: u64 = 37;
 
 // All checks, a line for each: number, SEP code, ISO code or blanks.
 const CHECKS: [[u8; 12]; CHECKS_MOST as usize] = [
@@ -56,10 +57,13 @@ const CHECKS: [[u8; 12]; CHECKS_MOST as usize] = [
     *b"32 H012 RC09",
     *b"33 H013 RC09",
     *b"34 T003 AC03",
+    *b"35 X003 NARR",
+    *b"36 TE10 FF10",
+    *b"37 X004 NARR",
 ];
 
 // The orders. They are written out anew wherever one is looked up, so they are bytes.
-const PACS_008: [u8; 23] = [
+const PACS_008: [u8; 18] = [
     1,
     2,
     3,
@@ -78,11 +82,6 @@ const PACS_008: [u8; 23] = [
     32,
     33,
     34,
-    20,
-    21,
-    22,
-    23,
-    24,
 ];
 
 const CAMT_050: [u8; 20] = [
@@ -109,6 +108,8 @@ const CAMT_050: [u8; 20] = [
 ];
 
 const PACS_028: [u8; 10] = [1, 2, 3, 5, 6, 7, 8, 9, 10, 11];
+
+const PACS_002: [u8; 14] = [1, 2, 3, 5, 6, 7, 35, 36, 37, 20, 21, 22, 23, 24];
 
 fn line_at(place: usize) -> [u8; 12]
     requires { ⌜ place < checksMost ⌝ }
@@ -143,10 +144,12 @@ pub fn iso_code(kind: Kind, number: u64) -> [u8; 4]
     ensures { λ r. ⌜ r ≡ isoOf kind number ⌝ }
 {
     let l = line(number);
+    let code = [l[8], l[9], l[10], l[11]];
     match kind {
         Kind::Camt050 => ABSENT,
-        Kind::Pacs008 => [l[8], l[9], l[10], l[11]],
-        Kind::Pacs028 => [l[8], l[9], l[10], l[11]],
+        Kind::Pacs008 => code,
+        Kind::Pacs028 => code,
+        Kind::Pacs002 => code,
     }
 }
 
@@ -155,9 +158,10 @@ pub fn order_length(kind: Kind) -> usize
     ensures { λ r. ⌜ r ≡ length (orderOf kind) ⌝ }
 {
     match kind {
-        Kind::Pacs008 => 23,
+        Kind::Pacs008 => 18,
         Kind::Camt050 => 20,
         Kind::Pacs028 => 10,
+        Kind::Pacs002 => 14,
     }
 }
 
@@ -179,10 +183,11 @@ pub fn order_at(kind: Kind, place: usize) -> u64
         Kind::Pacs008 => entry(&PACS_008, place),
         Kind::Camt050 => entry(&CAMT_050, place),
         Kind::Pacs028 => entry(&PACS_028, place),
+        Kind::Pacs002 => entry(&PACS_002, place),
     }
 }
 
-// Whether a number up to that of the last check is among the checks of pacs.008, camt.050 or pacs.028.
+// Whether a number up to that of the last check is among the checks of a kind.
 fn in_pacs_008(number: u64) -> bool
     requires { ⌜ number ≤ checksMost ⌝ }
     ensures { λ r. ⌜ r ≡ runs Pacs008 number ⌝ }
@@ -190,7 +195,7 @@ fn in_pacs_008(number: u64) -> bool
     ((1 <= number) & (number <= 3))
         | ((5 <= number) & (number <= 8))
         | (number == 17)
-        | (20 <= number)
+        | ((25 <= number) & (number <= 34))
 }
 
 fn in_camt_050(number: u64) -> bool
@@ -207,6 +212,26 @@ fn in_pacs_028(number: u64) -> bool
     ((1 <= number) & (number <= 3)) | ((5 <= number) & (number <= 11))
 }
 
+fn in_pacs_002(number: u64) -> bool
+    requires { ⌜ number ≤ checksMost ⌝ }
+    ensures { λ r. ⌜ r ≡ runs Pacs002 number ⌝ }
+{
+    ((1 <= number) & (number <= 3))
+        | ((5 <= number) & (number <= 7))
+        | ((20 <= number) & (number <= 24))
+        | (35 <= number)
+}
+
+// Whether a transfer is rejected where its answer fails by this check.
+pub fn is_rejecting(number: u64) -> bool
+    ensures { λ r. ⌜ r ≡ isIn number rejecting ⌝ }
+{
+    if CHECKS_MOST < number {
+        return false;
+    }
+    ((20 <= number) & (number <= 24)) | (number == 36) | (number == 37)
+}
+
 // Whether a check is one of a kind's.
 pub fn in_order(kind: Kind, number: u64) -> bool
     ensures { λ r. ⌜ r ≡ runs kind number ⌝ }
@@ -218,5 +243,6 @@ pub fn in_order(kind: Kind, number: u64) -> bool
         Kind::Pacs008 => in_pacs_008(number),
         Kind::Camt050 => in_camt_050(number),
         Kind::Pacs028 => in_pacs_028(number),
+        Kind::Pacs002 => in_pacs_002(number),
     }
 }

@@ -165,6 +165,9 @@ pub fn codes(word: &[u8], text: &[u8]) {
         if same(text, b"pacs.028") {
             order(Kind::Pacs028);
         }
+        if same(text, b"pacs.002") {
+            order(Kind::Pacs002);
+        }
     }
 }
 

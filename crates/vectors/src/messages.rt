@@ -14,6 +14,7 @@ use message::Answer;
 use message::Message;
 use message::Name;
 use message::Received;
+use message::Reply;
 use table::Kind;
 
 fn put_kind(kind: Kind) {
@@ -21,6 +22,7 @@ fn put_kind(kind: Kind) {
         Kind::Pacs008 => put(b" pacs.008"),
         Kind::Camt050 => put(b" camt.050"),
         Kind::Pacs028 => put(b" pacs.028"),
+        Kind::Pacs002 => put(b" pacs.002"),
     }
 }
 
@@ -37,7 +39,7 @@ fn put_agent(agent: Agent) {
     put_value(code);
 }
 
-// What the three kinds have in common, and what pacs.028 asks after.
+// What the kinds have in common, and what a pacs.028 asks after or a pacs.002 answers.
 fn put_common(m: Message) {
     let kind = m.kind;
     let created = m.created;
@@ -64,16 +66,28 @@ fn put_transfer(m: Message) {
     put_account(m.credit);
 }
 
-// Who else takes part in a pacs.008.
+// What a pacs.002 replies.
+fn put_reply(reply: Reply) {
+    match reply {
+        Reply::NoReply => put(b" none"),
+        Reply::Accepts => put(b" accepts"),
+        Reply::Declines => put(b" declines"),
+        Reply::Refuses => put(b" refuses"),
+    }
+}
+
+// Who else takes part in a pacs.008, and the reply of a pacs.002.
 fn put_parties(m: Message) {
     let instructed = m.instructed;
     let previous = m.previous;
     let iban = m.iban;
+    let reply = m.reply;
     put_value(instructed);
     put_value(previous);
     put_agent(m.debtor);
     put_agent(m.creditor);
     put_remainder(iban);
+    put_reply(reply);
 }
 
 // A number above those of all fields.

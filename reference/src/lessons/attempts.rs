@@ -3,8 +3,9 @@
 use super::drafts::{self, uetr_field, Draft, CREATED, INSTRUCTING, MSG_ID, REFERENCE};
 use super::Maker;
 use crate::directory::{self, Kind, Record};
-use crate::room::{self, LIQUIDITY, PAYMENT, REQUEST};
+use crate::room::{self, ANSWER, LIQUIDITY, PAYMENT, REQUEST};
 use crate::shapes::{self, AMOUNT_MOST, CODE_MOST};
+use crate::slip::WAITS;
 
 /// A submit call that is yet to be made.
 #[derive(Clone)]
@@ -17,8 +18,11 @@ pub struct Attempt {
     pub draft: Draft,
 }
 
+/// So many transfers in a hundred ask for more than there is when they are sent.
+const LARGE_PERCENT: u64 = 15;
+
 /// What may leave an account: nothing where it is blocked or its limit is used up.
-fn payable(account: &[u64]) -> u64 {
+pub fn payable(account: &[u64]) -> u64 {
     let available = account[room::BALANCE].saturating_sub(account[room::LTK]).min(AMOUNT_MOST);
     match (account[room::OUT], account[room::LPO]) {
         (1, _) | (_, 1) => 0,
@@ -27,7 +31,7 @@ fn payable(account: &[u64]) -> u64 {
     }
 }
 
-fn is_bank(record: &Record) -> bool {
+pub fn is_bank(record: &Record) -> bool {
     matches!(record.kind, Kind::Owner | Kind::Direct(_))
 }
 
@@ -90,7 +94,7 @@ impl Maker {
 
     /// A message that passes every check as far as the directory and the money allow.
     pub(super) fn valid(&mut self, seat: u64) -> Attempt {
-        let kind = [PAYMENT, LIQUIDITY, REQUEST][self.dice.weighed(&[45, 40, 15])];
+        let kind = [PAYMENT, LIQUIDITY, REQUEST, ANSWER][self.dice.weighed(&[26, 34, 14, 26])];
         self.valid_of(seat, kind)
     }
 
@@ -99,8 +103,13 @@ impl Maker {
         let (sender, draft) = match kind {
             PAYMENT => self.payment(seat),
             LIQUIDITY => self.liquidity(seat),
-            _ => self.request(seat),
+            REQUEST => self.request(seat),
+            _ => self.answer(seat),
         };
+        self.attempt(seat, opening, sender, draft)
+    }
+
+    pub(super) fn attempt(&mut self, seat: u64, opening: u64, sender: u64, draft: Draft) -> Attempt {
         let long = self.buffer();
         Attempt { seat, opening, sender, date: self.date, long, draft }
     }
@@ -119,15 +128,20 @@ impl Maker {
             }
         }
         let amount = self.sum(most);
+        (sender, self.liquidity_of(sender, digit, amount))
+    }
+
+    /// A camt.050 that moves an amount from an owner's account to its other one.
+    pub(super) fn liquidity_of(&mut self, owner: u64, from: u64, amount: u64) -> Draft {
         let texts = [
-            drafts::identifier(&mut self.dice, sender, self.date),
+            drafts::identifier(&mut self.dice, owner, self.date),
             self.created(self.date),
             drafts::uetr(&mut self.dice),
             drafts::amount(amount),
-            drafts::account(digit, sender, "UAH"),
-            drafts::account(3 - digit, sender, "UAH"),
+            drafts::account(from, owner, "UAH"),
+            drafts::account(3 - from, owner, "UAH"),
         ];
-        (sender, Draft::new(LIQUIDITY, &texts))
+        Draft::new(LIQUIDITY, &texts)
     }
 
     /// An agent of a bank: the bank itself, its indirect branch, or a provider that it serves.
@@ -141,6 +155,19 @@ impl Maker {
             (1, _, Some(code)) => ("ASP", code),
             _ => ("SEP", bank),
         }
+    }
+
+    /// What a transfer asks for: mostly what can be paid when it is sent, else a kopeck more or whatever can be written.
+    fn transfer_sum(&mut self, most: u64) -> u64 {
+        if !self.dice.chance(LARGE_PERCENT) {
+            return self.sum(most);
+        }
+        match self.dice.below(4) {
+            0 => most + 1,
+            1 => AMOUNT_MOST,
+            _ => most + self.dice.between(1, most / 2 + 100),
+        }
+        .min(AMOUNT_MOST)
     }
 
     pub(super) fn payment(&mut self, seat: u64) -> (u64, Draft) {
@@ -162,7 +189,7 @@ impl Maker {
             "SEP" if self.dice.chance(20) => member(self.any_code()),
             _ => String::new(),
         };
-        let amount = self.sum(most);
+        let amount = self.transfer_sum(most);
         let texts = [
             drafts::identifier(&mut self.dice, sender, self.date),
             self.created(self.date),
@@ -182,21 +209,52 @@ impl Maker {
         (sender, Draft::new(PAYMENT, &texts))
     }
 
-    /// A request about a pacs.008 sent before: mostly one of this seat's journal, else perhaps one taken back since.
-    pub(super) fn request(&mut self, seat: u64) -> (u64, Draft) {
+    /// A pacs.008 sent before: one of this seat's journal, each result about as often as another but for waiting ones, or
+    /// any.
+    fn asked(&mut self, seat: u64) -> Option<Draft> {
         let is_near = self.dice.chance(85);
-        let journal: Vec<&[u64]> = room::journal(room::seat(self.player.room(), seat as usize)).collect();
-        let is_there = |draft: &Draft| {
-            let id = shapes::identifier(draft.text(MSG_ID).as_bytes());
-            id.map_or(false, |id| journal.iter().any(|step| step[room::STEP_ID] == id.stored))
+        let is_over = self.dice.chance(75);
+        let seat = room::seat(self.player.room(), seat as usize);
+        let result = |draft: &Draft| {
+            let id = shapes::identifier(draft.text(MSG_ID).as_bytes())?;
+            let mut steps = room::numbered(seat);
+            let (number, _) =
+                steps.find(|(_, step)| step[room::STEP_KIND] == PAYMENT && step[room::STEP_ID] == id.stored)?;
+            Some(room::result_now(seat, number))
         };
         let payments = self.sent.iter().map(|sent| &sent.draft).filter(|draft| draft.kind == PAYMENT);
-        let asked: Vec<Draft> = payments.filter(|draft| !is_near || is_there(draft)).cloned().collect();
-        let asked = match asked.len() {
-            0 => self.payment(seat).1,
-            count => asked[self.dice.place(count)].clone(),
+        let mut asked: Vec<(Option<(u64, u64)>, &Draft)> = payments.map(|draft| (result(draft), draft)).collect();
+        asked.retain(|(result, _)| result.is_some() || !is_near);
+        if is_over && asked.iter().any(|(result, _)| *result != Some((WAITS, 0))) {
+            asked.retain(|(result, _)| *result != Some((WAITS, 0)));
+        }
+        let mut results: Vec<Option<(u64, u64)>> = asked.iter().map(|(result, _)| *result).collect();
+        results.sort_unstable();
+        results.dedup();
+        if results.is_empty() {
+            return None;
+        }
+        let wanted = self.dice.pick(&results);
+        asked.retain(|(result, _)| *result == wanted);
+        Some(asked[self.dice.place(asked.len())].1.clone())
+    }
+
+    /// A request about a transfer sent before.
+    pub(super) fn request(&mut self, seat: u64) -> (u64, Draft) {
+        let asked = match self.asked(seat) {
+            Some(asked) => asked,
+            None => self.payment(seat).1,
         };
-        let sender = asked.text(INSTRUCTING).parse().unwrap_or(0);
+        self.request_about(&asked)
+    }
+
+    /// A request about a transfer, mostly by the bank whose code the transfer's MsgId has.
+    pub(super) fn request_about(&mut self, asked: &Draft) -> (u64, Draft) {
+        let named = asked.text(MSG_ID).get(..6).and_then(|code| code.parse().ok());
+        let sender = match named {
+            Some(code) if self.dice.chance(90) => code,
+            _ => asked.text(INSTRUCTING).parse().unwrap_or(0),
+        };
         let texts = [
             drafts::identifier(&mut self.dice, sender, self.date),
             self.created(self.date),

@@ -138,6 +138,7 @@ pub fn small(dice: &mut Dice) -> Vec<u8> {
         "<Document><LqdyCdtTrf>x</LqdyCdtTrf></Document>",
         "<Document><FIToFICstmrCdtTrf>x</FIToFICstmrCdtTrf></Document>",
         "<Document><FIToFIPmtStsReq Ccy=\"UAH\">x</FIToFIPmtStsReq></Document>",
+        "<Document><FIToFIPmtStsRpt>x</FIToFIPmtStsRpt></Document>",
         "<LqdyCdtTrf>x</LqdyCdtTrf>",
         "<Document Ccy=\"UAH\">x</Document>",
         "<Document><LqdyCdtTrf><MsgHdr>x</MsgHdr></LqdyCdtTrf></Document>",

@@ -2,9 +2,10 @@
 
 use super::dice::Dice;
 use crate::message::{
-    Path, LIQUIDITY_BODY, LIQUIDITY_FIELDS, PAYMENT_BODY, PAYMENT_FIELDS, REQUEST_BODY, REQUEST_FIELDS,
+    Path, ANSWER_BODY, ANSWER_FIELDS, LIQUIDITY_BODY, LIQUIDITY_FIELDS, PAYMENT_BODY, PAYMENT_FIELDS, REQUEST_BODY,
+    REQUEST_FIELDS,
 };
-use crate::room::{LIQUIDITY, PAYMENT};
+use crate::room::{ANSWER, LIQUIDITY, PAYMENT, REQUEST};
 use crate::shapes::iban_remainder;
 
 /// An element with text: its path below the body, and its number in the kind's list (0: none).
@@ -47,6 +48,10 @@ pub const CREDITOR_ACCOUNT: usize = 6;
 pub const ORIGINAL_ID: usize = 4;
 pub const ORIGINAL_CREATED: usize = 6;
 pub const ORIGINAL_REFERENCE: usize = 8;
+// of a pacs.002; TxSts may be left out
+pub const ANSWERED_ID: usize = 3;
+pub const GROUP_STATUS: usize = 4;
+pub const TRANSFER_STATUS: usize = 5;
 
 fn joined(path: Path) -> String {
     let names: Vec<_> = path.iter().map(|name| String::from_utf8_lossy(name)).collect();
@@ -62,12 +67,22 @@ pub fn amount_field(kind: u64) -> usize {
     }
 }
 
-/// The number of the UETR, for a pacs.028 of OrgnlUETR.
+/// The number of the UETR, for a pacs.028 of OrgnlUETR; a pacs.002 has none.
 pub fn uetr_field(kind: u64) -> usize {
     match kind {
         PAYMENT => 6,
         LIQUIDITY => 3,
-        _ => 7,
+        REQUEST => 7,
+        _ => 0,
+    }
+}
+
+/// The number and the path of the field that a kind may leave out.
+fn optional_field(kind: u64) -> Option<(usize, Path)> {
+    match kind {
+        PAYMENT => Some((PREVIOUS, PAYMENT_FIELDS[PREVIOUS - 1])),
+        ANSWER => Some((TRANSFER_STATUS, ANSWER_FIELDS[TRANSFER_STATUS - 1])),
+        _ => None,
     }
 }
 
@@ -77,7 +92,8 @@ impl Draft {
         let (body, paths): (&[u8], &[Path]) = match kind {
             PAYMENT => (PAYMENT_BODY, &PAYMENT_FIELDS),
             LIQUIDITY => (LIQUIDITY_BODY, &LIQUIDITY_FIELDS),
-            _ => (REQUEST_BODY, &REQUEST_FIELDS),
+            REQUEST => (REQUEST_BODY, &REQUEST_FIELDS),
+            _ => (ANSWER_BODY, &ANSWER_FIELDS),
         };
         let mut leaves = Vec::new();
         for (at, (path, text)) in paths.iter().zip(texts).enumerate() {
@@ -102,13 +118,13 @@ impl Draft {
 
     /// Gives a field another text; a field that was left out comes in.
     pub fn put(&mut self, field: usize, text: &str) {
-        match self.leaves.iter_mut().find(|leaf| leaf.field == field) {
-            Some(leaf) => leaf.text = text.to_string(),
-            None if self.kind == PAYMENT && field == PREVIOUS => {
-                let path = joined(PAYMENT_FIELDS[PREVIOUS - 1]);
-                self.leaves.push(Leaf { field, path, text: text.to_string(), currency: None });
+        let found = self.leaves.iter_mut().find(|leaf| leaf.field == field);
+        match (found, optional_field(self.kind)) {
+            (Some(leaf), _) => leaf.text = text.to_string(),
+            (None, Some((number, path))) if number == field => {
+                self.leaves.push(Leaf { field, path: joined(path), text: text.to_string(), currency: None });
             }
-            None => {}
+            _ => {}
         }
     }
 
@@ -146,6 +162,12 @@ impl Draft {
         sheet += &format!("</{}>{}</{}>", self.body, self.tail, self.outer.split(' ').next().unwrap_or(""));
         sheet.into_bytes()
     }
+}
+
+/// The text of an identifier that a room keeps.
+pub fn stored_text(numbers: &[u64]) -> String {
+    let bytes = numbers.iter().flat_map(|number| number.to_be_bytes()).filter(|byte| *byte != 0);
+    bytes.map(char::from).collect()
 }
 
 const DIGITS_AND_CAPITALS: &[u8] = b"0123456789ABCDEFGHIJKLMNOPQRSTUVWXYZ";
@@ -229,6 +251,8 @@ pub fn ill_shaped(dice: &mut Dice, path: &str) -> String {
         "OrgnlMsgNmId" => {
             &["pacs.009.001.08", "pacs.00", "Pacs.008", " pacs.008", "pacs.008aaaaaaaaaaaaaaaaaaaaaaaaaaaa", "x"]
         }
+        "GrpSts" => &["ACCC", "ACSP", "accp", "ACCP ", " RJCT", "ACC", "RJCTX", "Rjct", "PDNG"],
+        "TxSts" => &["ACCP", "ACCP", "rjct", "RJCT ", "RJC", "RJCTX", "PDNG"],
         _ => &["123456789012345678901234567890123456", "x                                  x"],
     };
     dice.pick(texts).to_string()

@@ -2,24 +2,30 @@
 
 use super::{Maker, EDGES};
 use crate::room::{
-    self, ACCOUNT_LONG, HEAD_LONG, PAYMENT, REQUEST, ROOM_LONG, SEATS, SEAT_LONG, STEPS, STEP_LONG, SUM_MOST,
+    self, ACCOUNT_LONG, ANSWER, HEAD_LONG, LIQUIDITY, PAYMENT, ROOM_LONG, SEATS, SEAT_LONG, STEPS, STEP_LONG, SUM_MOST,
 };
 use crate::shapes;
 use crate::slip::ACCC;
 
 /// Where a seat's journal begins.
-const JOURNAL: usize = SEAT_LONG - STEPS * STEP_LONG;
+pub const JOURNAL: usize = SEAT_LONG - STEPS * STEP_LONG;
 
-/// A room of the eight seats of document 01.
+/// A room of eight seats, as document 01 has them.
 const EIGHT_SEATS_LONG: usize = 8 * SEAT_LONG;
 
-/// Lengths that no room has; that of eight seats twice, so that it comes up more often.
-const WRONG_LENGTHS: [usize; 10] = [
+/// A room whose steps keep neither a receiver nor what they answer.
+const SHORT_STEPS_LONG: usize = ROOM_LONG - 2 * SEATS * STEPS;
+
+/// Lengths that no room has; those that a room had once come up more often.
+const WRONG_LENGTHS: [usize; 13] = [
     0,
     1,
     SEAT_LONG,
     EIGHT_SEATS_LONG,
     EIGHT_SEATS_LONG,
+    SHORT_STEPS_LONG,
+    SHORT_STEPS_LONG,
+    SHORT_STEPS_LONG,
     ROOM_LONG - SEAT_LONG,
     ROOM_LONG - 1,
     ROOM_LONG + 1,
@@ -40,15 +46,22 @@ impl Maker {
             4 => self.dice.place(ROOM_LONG),
             5 => self.dice.place(SEATS) * SEAT_LONG + self.dice.place(HEAD_LONG),
             6 if steps > 0 => from + JOURNAL + (steps - 1) * STEP_LONG + self.dice.place(STEP_LONG),
-            7 | 8 if steps > 0 => {
-                from + JOURNAL + self.dice.place(steps) * STEP_LONG + self.dice.place(room::STEP_ID.end)
+            7 if steps > 0 => {
+                let telling = [room::STEP_KIND, room::STEP_STATUS, room::STEP_CHECK, room::STEP_UETR.start];
+                let number = if self.dice.chance(50) {
+                    self.dice.pick(&[room::STEP_RECEIVER, room::STEP_ANSWERS])
+                } else {
+                    self.dice.pick(&telling)
+                };
+                from + JOURNAL + self.dice.place(steps) * STEP_LONG + number
             }
+            8 if steps > 0 => from + JOURNAL + self.dice.place(steps) * STEP_LONG + self.dice.place(room::STEP_ID.end),
             _ => from + JOURNAL + self.dice.place((steps.max(1)) * STEP_LONG),
         }
     }
 
     /// A number that is nearly another.
-    fn near(&mut self, number: u64) -> u64 {
+    pub(super) fn near(&mut self, number: u64) -> u64 {
         match self.dice.below(13) {
             0 | 1 => number.wrapping_add(1),
             2 | 3 => number.wrapping_sub(1),
@@ -66,7 +79,7 @@ impl Maker {
         }
     }
 
-    fn put(&mut self, place: usize, number: u64) {
+    pub(super) fn put(&mut self, place: usize, number: u64) {
         if self.player.room()[place] != number {
             self.line(&format!("poke {} {}", place, number));
         }
@@ -74,10 +87,12 @@ impl Maker {
 
     /// A number of the room is changed, a call or two are made, and it is mostly changed back.
     pub(super) fn poke(&mut self) {
-        match self.dice.below(13) {
-            0 | 1 => self.poke_alike(Maker::poke_sums),
-            2..=4 => self.poke_alike(Maker::poke_movement),
-            5 | 6 => self.poke_alike(Maker::poke_setting),
+        let seat = self.some_seat();
+        match self.dice.below(24) {
+            0 | 1 => self.poke_alike(seat, Maker::poke_sums),
+            2..=4 => self.poke_alike(seat, Maker::poke_movement),
+            5 | 6 => self.poke_alike(seat, Maker::poke_setting),
+            7..=16 => self.poke_transfers(seat),
             _ => {
                 let place = self.place();
                 let old = self.player.room()[place];
@@ -95,10 +110,9 @@ impl Maker {
 
     /// Several numbers are changed alike, so that the journal comes out; ranges or a balance on the way may be wrong. A
     /// room that is unfit then is mostly put right number by number.
-    fn poke_alike(&mut self, change: fn(&mut Maker, usize)) {
+    pub(super) fn poke_alike(&mut self, seat: u64, change: fn(&mut Maker, usize)) {
         let before = self.player.room().to_vec();
-        let seat = self.some_seat() as usize;
-        change(self, seat * SEAT_LONG);
+        change(self, seat as usize * SEAT_LONG);
         let is_fit = room::is_fit(self.player.room());
         self.any_call();
         if !is_fit && self.dice.chance(85) {
@@ -113,7 +127,7 @@ impl Maker {
         let seat = &self.player.room()[from..from + SEAT_LONG];
         let mut balance = room::account(seat, account)[room::OPENING_SUM];
         let mut lowest = balance;
-        for step in room::journal(seat) {
+        for step in room::journal(seat).filter(|step| step[room::STEP_KIND] != PAYMENT) {
             if step[room::STEP_DEBIT] != step[room::STEP_CREDIT] && step[room::STEP_DEBIT] == account as u64 {
                 balance = balance.wrapping_sub(step[room::STEP_AMOUNT]);
             } else if step[room::STEP_DEBIT] != step[room::STEP_CREDIT] && step[room::STEP_CREDIT] == account as u64 {
@@ -149,7 +163,7 @@ impl Maker {
     }
 
     /// A step of a kind in the seat's journal, by its place in the room.
-    fn step_where(&mut self, from: usize, sort: impl Fn(&[u64]) -> bool) -> Option<usize> {
+    pub(super) fn step_where(&mut self, from: usize, sort: impl Fn(&[u64]) -> bool) -> Option<usize> {
         let seat = &self.player.room()[from..from + SEAT_LONG];
         let places: Vec<usize> = room::journal(seat)
             .enumerate()
@@ -164,14 +178,14 @@ impl Maker {
     }
 
     /// Adds to an account's number, or takes from it.
-    fn shift(&mut self, from: usize, account: u64, number: usize, by: u64) {
+    pub(super) fn shift(&mut self, from: usize, account: u64, number: usize, by: u64) {
         let at = from + HEAD_LONG + (account as usize).min(room::ACCOUNTS - 1) * ACCOUNT_LONG + number;
         let sum = self.player.room()[at].wrapping_add(by);
         self.put(at, sum);
     }
 
     /// The accounts of a movement, or others in their place: mostly near ones, since those have money.
-    fn other_accounts(&mut self, kind: u64, debit: u64, credit: u64) -> (u64, u64) {
+    pub(super) fn other_accounts(&mut self, kind: u64, debit: u64, credit: u64) -> (u64, u64) {
         let accounts = 2 * self.player.directory.len() as u64;
         let other_debit = match self.dice.below(4) {
             0 | 1 => debit,
@@ -180,39 +194,53 @@ impl Maker {
         };
         let other_credit = match self.dice.below(4) {
             0 => other_debit,
-            1 if kind != PAYMENT => other_debit ^ 1,
+            1 if kind == LIQUIDITY => other_debit ^ 1,
             1 | 2 => credit,
             _ => self.dice.below(accounts),
         };
         (other_debit, other_credit)
     }
 
+    /// Puts a movement into a step and, mostly, into the transfer that it answers.
+    fn put_movements(&mut self, from: usize, step: usize, movement: [u64; 3]) {
+        let answered = self.player.room()[step + room::STEP_ANSWERS];
+        let is_pair = (1..=STEPS as u64).contains(&answered) && self.dice.chance(75);
+        for (number, value) in (room::STEP_DEBIT..).zip(movement) {
+            self.put(step + number, value);
+            if is_pair {
+                self.put(from + JOURNAL + (answered as usize - 1) * STEP_LONG + number, value);
+            }
+        }
+    }
+
     /// A movement between other accounts or of another amount, with balances and turnovers to match.
     fn poke_movement(&mut self, from: usize) {
-        let step =
-            match self.step_where(from, |step| step[room::STEP_STATUS] == ACCC && step[room::STEP_KIND] != REQUEST) {
-                Some(step) => step,
-                None => return,
-            };
+        let has_moved =
+            |step: &[u64]| step[room::STEP_STATUS] == ACCC && matches!(step[room::STEP_KIND], LIQUIDITY | ANSWER);
+        let step = match self.step_where(from, has_moved) {
+            Some(step) => step,
+            None => return,
+        };
         let kind = self.player.room()[step];
         let old = self.player.room()[step + room::STEP_DEBIT..step + room::STEP_ACCOUNT].to_vec();
         let (debit, credit) = self.other_accounts(kind, old[0], old[1]);
         let amount =
             if self.dice.chance(60) { old[2] } else { self.dice.pick(&[0, 1, 9_999_999_999_999, 10_000_000_000_000]) };
-        self.shift(from, old[0], room::TURNOVER, old[2].wrapping_neg());
-        self.shift(from, old[0], room::BALANCE, old[2]);
-        self.shift(from, old[1], room::BALANCE, old[2].wrapping_neg());
-        self.shift(from, debit, room::TURNOVER, amount);
-        self.shift(from, debit, room::BALANCE, amount.wrapping_neg());
-        self.shift(from, credit, room::BALANCE, amount);
+        self.unmove(from, [old[0], old[1], old[2]]);
+        self.unmove(from, [debit, credit, amount.wrapping_neg()]);
         if self.dice.chance(50) {
             // opened with as much more, the account has the money at that step
             self.shift(from, debit, room::OPENING_SUM, amount);
             self.shift(from, debit, room::BALANCE, amount);
         }
-        for (number, value) in [debit, credit, amount].iter().enumerate() {
-            self.put(step + room::STEP_DEBIT + number, *value);
-        }
+        self.put_movements(from, step, [debit, credit, amount]);
+    }
+
+    /// Takes a movement out of balances and turnover; one of the opposite amount is put in.
+    pub(super) fn unmove(&mut self, from: usize, [debit, credit, amount]: [u64; 3]) {
+        self.shift(from, debit, room::TURNOVER, amount.wrapping_neg());
+        self.shift(from, debit, room::BALANCE, amount);
+        self.shift(from, credit, room::BALANCE, amount.wrapping_neg());
     }
 
     /// The last set of the account that a set concerns, by its place in the room.
@@ -252,12 +280,12 @@ impl Maker {
     }
 
     pub(super) fn lay_or_change(&mut self) {
-        if self.dice.chance(40) {
+        if self.dice.chance(50) {
             let long = self.dice.pick(&WRONG_LENGTHS);
             self.line(&format!("lay {}", long));
             self.any_call();
             self.lay();
-        } else if self.dice.chance(50) {
+        } else if self.dice.chance(40) {
             self.good = self.new_directory();
             self.write_directory(&self.good.clone());
         } else {
@@ -273,7 +301,7 @@ impl Maker {
             self.line(&format!("dump {}", number));
             return;
         }
-        let kind = self.dice.between(PAYMENT, REQUEST);
+        let kind = self.dice.between(PAYMENT, ANSWER);
         let mut attempt = self.valid_of(number, kind);
         let mut check = self.check_of(kind);
         for _ in 0..self.dice.between(0, 4) {

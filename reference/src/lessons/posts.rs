@@ -2,9 +2,12 @@
 
 use super::attempts::{member, Attempt};
 use super::damage;
-use super::drafts::{self, amount_field, uetr_field, Draft, Leaf, DEBTOR_ACCOUNT, INSTRUCTING, MSG_ID, PREVIOUS};
+use super::drafts::{
+    self, amount_field, uetr_field, Draft, Leaf, ANSWERED_ID, DEBTOR_ACCOUNT, GROUP_STATUS, INSTRUCTING, MSG_ID,
+    PREVIOUS, TRANSFER_STATUS,
+};
 use super::{Maker, Sent, EDGES};
-use crate::room::{LIQUIDITY, PAYMENT};
+use crate::room::{self, ANSWER, LIQUIDITY, PAYMENT};
 
 const BAD_DATES: [u64; 10] =
     [0, 20230229, 20240230, 20240431, 20241301, 20240100, 19991231, 21000101, 202403011, u64::MAX];
@@ -31,7 +34,7 @@ impl Maker {
     /// A message that fails one check or, so that the order shows, several.
     pub(super) fn send_spoiled(&mut self) {
         let seat = self.some_seat();
-        let kind = 1 + self.dice.weighed(&[50, 32, 18]) as u64;
+        let kind = 1 + self.dice.weighed(&[36, 28, 13, 23]) as u64;
         let mut attempt = self.valid_of(seat, kind);
         let mut check = self.check_of(kind);
         self.spoil(&mut attempt, check);
@@ -46,7 +49,29 @@ impl Maker {
         if self.dice.chance(3) {
             self.put_bad_numbers(&mut attempt, 40);
         }
-        self.send(&attempt, sheet);
+        if self.send(&attempt, sheet) {
+            self.ask_after(&attempt);
+        }
+    }
+
+    /// Asks about the transfer that was just sent or answered: seldom where it waits, since then it is only told so, and
+    /// mostly where it failed a check that hardly any request tells of.
+    fn ask_after(&mut self, attempt: &Attempt) {
+        let id = match attempt.draft.kind {
+            PAYMENT => attempt.draft.text(MSG_ID),
+            ANSWER => attempt.draft.text(ANSWERED_ID),
+            _ => return,
+        };
+        let check = room::journal(self.seat(attempt.seat)).last().map_or(0, |step| step[room::STEP_CHECK]);
+        let waits = self.transfers(attempt.seat).iter().any(|transfer| transfer.waits && transfer.id == id);
+        let percent = match check {
+            3 | 5 | 6 if attempt.draft.kind == PAYMENT => 80,
+            _ if waits => 6,
+            _ => 45,
+        };
+        if self.dice.chance(percent) {
+            self.ask(attempt.seat, id);
+        }
     }
 
     pub(super) fn rows(&mut self, attempt: &Attempt, sheet: &[u8]) {
@@ -86,6 +111,7 @@ impl Maker {
         attempt.draft = self.sent[place].draft.clone();
         let code = match attempt.draft.kind {
             LIQUIDITY => attempt.draft.text(DEBTOR_ACCOUNT).get(1..7).unwrap_or("").to_string(),
+            ANSWER => attempt.draft.text(MSG_ID).get(..6).unwrap_or("").to_string(),
             _ => attempt.draft.text(INSTRUCTING).to_string(),
         };
         attempt.sender = code.parse().unwrap_or(attempt.sender);
@@ -94,7 +120,7 @@ impl Maker {
                 let id = drafts::identifier(&mut self.dice, attempt.sender, self.date);
                 attempt.draft.put(MSG_ID, &id);
             }
-            1 => {
+            1 if attempt.draft.kind != ANSWER => {
                 let uetr = drafts::uetr(&mut self.dice);
                 attempt.draft.put(uetr_field(attempt.draft.kind), &uetr);
             }
@@ -106,10 +132,12 @@ impl Maker {
     /// A message of which one field, or two, are missing, doubled, ill-shaped or beside the point.
     pub(super) fn send_faulty(&mut self) {
         let seat = self.some_seat();
-        let kind = 1 + self.dice.weighed(&[50, 25, 25]) as u64;
+        let kind = 1 + self.dice.weighed(&[38, 19, 19, 24]) as u64;
         let mut attempt = self.valid_of(seat, kind);
-        for _ in 0..1 + self.dice.weighed(&[60, 40]) {
-            self.put_fault(&mut attempt.draft);
+        if kind == ANSWER && self.dice.chance(30) {
+            self.put_transfer_status(&mut attempt.draft);
+        } else {
+            self.put_faults(&mut attempt.draft);
         }
         if self.dice.chance(10) {
             attempt.sender = self.any_code();
@@ -117,15 +145,44 @@ impl Maker {
         self.send(&attempt, attempt.draft.sheet());
     }
 
+    fn put_faults(&mut self, draft: &mut Draft) {
+        for _ in 0..1 + self.dice.weighed(&[60, 40]) {
+            self.put_optional(draft);
+            self.put_fault(draft);
+        }
+    }
+
+    /// Gives a message the field that it may leave out, by chance.
+    fn put_optional(&mut self, draft: &mut Draft) {
+        match draft.kind {
+            PAYMENT if self.dice.chance(20) => {
+                let code = self.any_code();
+                draft.put(PREVIOUS, &member(code));
+            }
+            ANSWER if self.dice.chance(40) => self.put_transfer_status(draft),
+            _ => {}
+        }
+    }
+
+    /// A TxSts, right or not, at the end or in front. Beside ACCP it is ill-shaped wherever it stands.
+    fn put_transfer_status(&mut self, draft: &mut Draft) {
+        let text = drafts::ill_shaped(&mut self.dice, "TxSts");
+        draft.put(TRANSFER_STATUS, if self.dice.chance(50) { "RJCT" } else { &text });
+        if self.dice.chance(40) {
+            draft.leaves.rotate_right(1);
+        }
+    }
+
     pub(super) fn put_fault(&mut self, draft: &mut Draft) {
         if draft.leaves.is_empty() {
             return;
         }
-        if draft.kind == PAYMENT && self.dice.chance(20) {
-            let code = self.any_code();
-            draft.put(PREVIOUS, &member(code));
-        }
-        let wanted = if self.dice.chance(60) { amount_field(draft.kind) } else { PREVIOUS };
+        let wanted = match (draft.kind, self.dice.chance(60)) {
+            (ANSWER, true) => GROUP_STATUS,
+            (ANSWER, false) => TRANSFER_STATUS,
+            (_, true) => amount_field(draft.kind),
+            (_, false) => PREVIOUS,
+        };
         let place = match draft.leaves.iter().position(|leaf| leaf.field == wanted) {
             Some(place) if self.dice.chance(35) => place,
             _ => self.dice.place(draft.leaves.len()),
@@ -177,8 +234,15 @@ impl Maker {
             3 => draft.leaves[place].path = path.to_lowercase(),
             4 => draft.outer = self.dice.pick(&["Documents", "document", "Document Ccy=\"UAH\""]).to_string(),
             5 => {
-                draft.body =
-                    self.dice.pick(&["FIToFICstmrCdtTrf", "LqdyCdtTrf", "FIToFIPmtStsReq", "CstmrCdtTrf"]).to_string()
+                let bodies = [
+                    "FIToFICstmrCdtTrf",
+                    "LqdyCdtTrf",
+                    "FIToFIPmtStsReq",
+                    "FIToFIPmtStsRpt",
+                    "FIToFIPmtSts",
+                    "CstmrCdtTrf",
+                ];
+                draft.body = self.dice.pick(&bodies).to_string()
             }
             6 => draft.tail = self.dice.pick(&["<A>x</A>", "<LqdyCdtTrf>x</LqdyCdtTrf>", "x"]).to_string(),
             _ => draft.leaves.insert(place, extra(path.rsplit('/').next().unwrap_or("").to_string())),

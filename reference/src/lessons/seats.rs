@@ -1,7 +1,7 @@
 //! A lesson's directories, seats and tickets: right ones, and such as are refused.
 
 use super::{Maker, EDGES};
-use crate::directory::{Kind, Record, RECORDS_MOST};
+use crate::directory::{self, Kind, Record, RECORDS_MOST};
 use crate::room::{OPENED, OPENING, SEATS, SEAT_LONG, SUM_MOST};
 use crate::shapes::CODE_MOST;
 use crate::slip::FIVE_BYTES;
@@ -49,6 +49,46 @@ impl Maker {
         for record in records {
             let instant = u64::from(record.instant);
             self.line(&format!("record {} {} {}", record.code, instant, kind_words(record.kind)));
+        }
+    }
+
+    /// The directory with a change or a few that leave it fit, mostly to a bank's record.
+    pub(super) fn varied_directory(&mut self, bank: u64) -> Vec<Record> {
+        let mut records = self.good.clone();
+        for _ in 0..self.dice.between(1, 3) {
+            let mut changed = records.clone();
+            self.change_record(&mut changed, bank);
+            changed.sort_by_key(|record| record.code);
+            if directory::is_fit(&changed) {
+                records = changed;
+            }
+        }
+        records
+    }
+
+    fn change_record(&mut self, records: &mut Vec<Record>, bank: u64) {
+        let one = match records.iter().position(|record| record.code == bank) {
+            Some(place) if self.dice.chance(50) => place,
+            _ => self.dice.place(records.len()),
+        };
+        let named = records[self.dice.place(records.len())].code;
+        let kinds = [Kind::Owner, Kind::Direct(named), Kind::Indirect(named), Kind::Provider(named)];
+        match self.dice.below(10) {
+            0 | 1 => {
+                records.remove(one);
+            }
+            2 => records[one].instant = !records[one].instant,
+            3 | 4 => records[one].kind = self.dice.pick(&kinds),
+            5..=8 => {
+                // records of higher codes move to other places
+                let code = self.unlisted();
+                records.push(Record { code, instant: true, kind: Kind::Owner });
+            }
+            _ => {
+                // the bank alone, so that kept places have no record
+                records.retain(|record| record.code == bank);
+                records.iter_mut().for_each(|record| record.kind = Kind::Owner);
+            }
         }
     }
 

@@ -6,11 +6,11 @@ use super::drafts::{
     DEBTOR_ACCOUNT, DEBTOR_LIST, INSTRUCTED, INSTRUCTING, MSG_ID, ORIGINAL_CREATED, ORIGINAL_ID, ORIGINAL_REFERENCE,
     PREVIOUS,
 };
-use super::{Maker, Touched};
+use super::Maker;
 use crate::checks;
 use crate::directory::{self, Kind, Record};
-use crate::room::{self, LIQUIDITY, PAYMENT, REQUEST, SUM_MOST};
-use crate::shapes::{self, AMOUNT_MOST};
+use crate::room::{ANSWER, LIQUIDITY, PAYMENT, REQUEST};
+use crate::shapes;
 
 /// First digits that are not 1 and 2, either way.
 const WRONG_DIGITS: [(&str, &str); 7] =
@@ -20,7 +20,8 @@ fn order_of(kind: u64) -> &'static [u64] {
     match kind {
         PAYMENT => &checks::PAYMENT_ORDER,
         LIQUIDITY => &checks::LIQUIDITY_ORDER,
-        _ => &checks::REQUEST_ORDER,
+        REQUEST => &checks::REQUEST_ORDER,
+        _ => &checks::ANSWER_ORDER,
     }
 }
 
@@ -49,6 +50,7 @@ impl Maker {
     pub(super) fn check_of(&mut self, kind: u64) -> u64 {
         match kind {
             REQUEST if self.dice.chance(30) => 11, // 11 shows only where nothing before it fails
+            LIQUIDITY if self.dice.chance(20) => self.dice.pick(&[22, 23, 24]),
             _ => self.dice.pick(order_of(kind)),
         }
     }
@@ -77,6 +79,8 @@ impl Maker {
                 attempt.draft.put(INSTRUCTING, &member(code));
             }
             10 | 11 => self.spoil_original(attempt, check),
+            35 => self.spoil_answerer(attempt),
+            36 | 37 => self.put_verdict(&mut attempt.draft, check),
             12..=16 | 18 | 19 => self.spoil_accounts(attempt, check),
             20..=24 => self.spoil_money(attempt, check),
             34 => {
@@ -102,14 +106,17 @@ impl Maker {
             Some(code) => code,
             None => self.unlisted(),
         };
-        if self.dice.chance(70) {
+        // what fails 3 under another bank's MsgId can be asked after by that bank
+        if self.dice.chance(if check == 3 { 45 } else { 70 }) {
             let id = drafts::identifier(&mut self.dice, attempt.sender, attempt.date);
             attempt.draft.put(MSG_ID, &id);
-            if attempt.draft.kind == LIQUIDITY {
-                attempt.draft.put(DEBTOR_ACCOUNT, &drafts::account(1, attempt.sender, "UAH"));
-                attempt.draft.put(CREDITOR_ACCOUNT, &drafts::account(2, attempt.sender, "UAH"));
-            } else {
-                attempt.draft.put(INSTRUCTING, &member(attempt.sender));
+            match attempt.draft.kind {
+                LIQUIDITY => {
+                    attempt.draft.put(DEBTOR_ACCOUNT, &drafts::account(1, attempt.sender, "UAH"));
+                    attempt.draft.put(CREDITOR_ACCOUNT, &drafts::account(2, attempt.sender, "UAH"));
+                }
+                ANSWER => {}
+                _ => attempt.draft.put(INSTRUCTING, &member(attempt.sender)),
             }
         }
     }
@@ -129,10 +136,19 @@ impl Maker {
         }
     }
 
-    /// 6 and 17: what an earlier message of this seat had, of any kind.
+    /// 6 and 17: what an earlier message of this seat had, of any kind that has it. A MsgId is mostly one of the sender's,
+    /// since another fails 5 first, and often of another kind.
     pub(super) fn spoil_by_repeating(&mut self, attempt: &mut Attempt, check: u64) {
-        let drafts: Vec<Draft> =
-            self.sent.iter().filter(|sent| sent.seat == attempt.seat).map(|sent| sent.draft.clone()).collect();
+        let near = self.dice.chance(70);
+        let alike = self.dice.chance(40);
+        let code = member(attempt.sender);
+        let kind = attempt.draft.kind;
+        let suits = |draft: &Draft| match check {
+            6 => (!near || draft.text(MSG_ID).starts_with(&code)) && (alike || draft.kind != kind),
+            _ => draft.kind != ANSWER,
+        };
+        let here = self.sent.iter().filter(|sent| sent.seat == attempt.seat && suits(&sent.draft));
+        let drafts: Vec<Draft> = here.map(|sent| sent.draft.clone()).collect();
         if drafts.is_empty() {
             return;
         }
@@ -211,59 +227,8 @@ impl Maker {
         }
     }
 
-    /// The owners' codes and numbers of the accounts that a transfer debits and credits.
-    pub(super) fn accounts_of(&self, draft: &Draft) -> Option<[(u64, u64); 2]> {
-        let code = |text: &str| text.parse::<u64>().ok();
-        let using = |text: &str| {
-            let place = directory::using_place(&self.player.directory, code(text)?)?;
-            Some((self.player.directory[place].code, 2))
-        };
-        let named = |text: &str| Some((code(text.get(1..7)?)?, code(text.get(..1)?)?));
-        match draft.kind {
-            PAYMENT => Some([using(draft.text(INSTRUCTING))?, using(draft.text(INSTRUCTED))?]),
-            LIQUIDITY => Some([named(draft.text(DEBTOR_ACCOUNT))?, named(draft.text(CREDITOR_ACCOUNT))?]),
-            _ => None,
-        }
-    }
-
-    /// 20 to 24: a set call before the message, or an amount that is one kopeck too high.
-    pub(super) fn spoil_money(&mut self, attempt: &mut Attempt, check: u64) {
-        let accounts = match self.accounts_of(&attempt.draft) {
-            Some(accounts) => accounts,
-            None => return,
-        };
-        let (owner, number) = accounts[if check == 21 { 1 } else { 0 }];
-        let place = match directory::owner_place(&self.player.directory, owner) {
-            Some(place) if number == 1 || number == 2 => place,
-            _ => return,
-        };
-        let account = self.account(attempt.seat, room::account_number(place, number)).to_vec();
-        let field = amount_field(attempt.draft.kind);
-        let amount: u64 = attempt.draft.text(field).replace('.', "").parse().unwrap_or(1);
-        let available = account[room::BALANCE].saturating_sub(account[room::LTK]);
-        let limit = account[room::TURNOVER] + amount;
-        let less = self.dice.below(2); // just met, or one kopeck too little
-        let (mut out, mut into) = (account[room::OUT], account[room::INTO]);
-        let (mut ltk, mut lpo) = (account[room::LTK], account[room::LPO]);
-        match check {
-            20 => out = 1,
-            21 => into = 1,
-            22 if self.dice.chance(60) && available < AMOUNT_MOST => {
-                attempt.draft.put(field, &drafts::amount(available + 1));
-                return;
-            }
-            22 => ltk = (account[room::BALANCE] + less).saturating_sub(amount).min(SUM_MOST),
-            23 => lpo = (limit - less).min(SUM_MOST) + 1,
-            _ => lpo = 1,
-        }
-        let lpo = if lpo == 0 { "-".to_string() } else { (lpo - 1).to_string() };
-        let settings = format!("{} {} {} {}", out, into, ltk, lpo);
-        self.line(&format!("set {} {} {} {} {}", attempt.seat, attempt.opening, owner, number, settings));
-        self.touched.push(Touched { seat: attempt.seat, owner, number });
-    }
-
     /// A code that is tied to another: its head or bank, or one that names the same owner.
-    fn relative(&mut self, code: u64) -> u64 {
+    pub(super) fn relative(&mut self, code: u64) -> u64 {
         let owner = directory::find(&self.player.directory, code).map(owner_of);
         self.code(|record| Some(owner_of(record)) == owner).unwrap_or(code)
     }

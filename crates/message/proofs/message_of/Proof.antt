@@ -138,9 +138,25 @@ shown-requires-17 c κs =
 time-of-requires-2 : tie.Need-time-of-requires-2
 time-of-requires-2 c κs = tt
 
+shown-requires-18 : tie.Need-shown-requires-18
+shown-requires-18 c κs =
+    let late = c .before .before .before .before .before .before .before .before .before .before .before .before .before .before .before in
+    let early = late .before .before .before .before .before .before .before .before .before .before .before .before .before .before .before in
+    asked (early .before .before) 17 (lit< tt)
+
+shown-requires-19 : tie.Need-shown-requires-19
+shown-requires-19 c κs =
+    let late = c .before .before .before .before .before .before .before .before .before .before .before .before .before .before .before in
+    let early = late .before .before .before .before .before .before .before .before .before .before .before .before .before .before .before in
+    asked (early .before .before .before) 18 (lit< tt)
+
+reply-of-requires : tie.Need-reply-of-requires
+reply-of-requires c κs = tt
+
 returns : tie.Need-returns
 returns c =
-    let at-shown15 = c .before .before .before .before .before in
+    let at-time-of2 = c .before .before .before in
+    let at-shown15 = at-time-of2 .before .before .before .before .before in
     let at-agent-of2 = at-shown15 .before .before .before .before .before in
     let at-shown9 = at-agent-of2 .before .before .before .before .before in
     let at-uetr-of = at-shown9 .before .before .before .before .before in
@@ -163,9 +179,10 @@ returns c =
     (at-agent-of2 .agent-of2 .ensures ∙ rw (at-agent-of2 .before .before .shown11 .ensures, at-agent-of2 .before .shown12 .ensures))
     (at-shown15 .before .before .before .remainder .ensures ∙ rw (at-shown15 .before .before .before .before .shown13 .ensures))
     (at-shown15 .before .account-of .ensures ∙ rw (at-shown15 .before .before .shown14 .ensures))
-    (c .before .before .before .before .account-of2 .ensures ∙ rw (at-shown15 .shown15 .ensures))
-    (c .before .before .name-of2 .ensures ∙ rw (c .before .before .before .shown16 .ensures))
-    (c .time-of2 .ensures ∙ rw (c .before .shown17 .ensures))
+    (at-time-of2 .before .before .before .before .account-of2 .ensures ∙ rw (at-shown15 .shown15 .ensures))
+    (at-time-of2 .before .before .name-of2 .ensures ∙ rw (at-time-of2 .before .before .before .shown16 .ensures))
+    (at-time-of2 .time-of2 .ensures ∙ rw (at-time-of2 .before .shown17 .ensures))
+    (c .reply-of .ensures ∙ rw (c .before .before .shown18 .ensures, c .before .shown19 .ensures))
 
 pub message-of-spec : {M : Type 1} → statement M
 message-of-spec =
@@ -204,4 +221,7 @@ message-of-spec =
     name-of-requires-2
     shown-requires-17
     time-of-requires-2
+    shown-requires-18
+    shown-requires-19
+    reply-of-requires
     returns)

@@ -1,5 +1,5 @@
 -- Fitness was tested, and gives what the call asks for.
-use Rattle.play.proofs.Asked.{fits, long, step-asks}
+use Rattle.play.proofs.Asked.{long, possible-asks, step-asks}
 use borrow.Author.Needs.{needs}
 use Rattle.play.proofs.play_step.Statement.{statement}
 use Rattle.play.proofs.play_step.Tie as tie
@@ -14,7 +14,12 @@ returns : tie.Need-returns
 returns c = search needs
 
 head-requires : tie.Need-head-requires
-head-requires c κs = long (c .before .before .before .before .before .args .s .now) (c .before .before .seat-fits .result) (c .before .before .seat-fits .ensures) (c .before .if1 .left)
+head-requires c κs =
+    long
+    (c .before .before .before .before .before .args .s .now)
+    (c .before .before .seat-fits .result)
+    (c .before .before .seat-fits .ensures)
+    (c .before .if1 .left)
 
 same-length-2 : tie.Need-same-length-2
 same-length-2 c = search needs
@@ -29,7 +34,15 @@ returns-3 : tie.Need-returns-3
 returns-3 c = search needs
 
 is-possible-requires : tie.Need-is-possible-requires
-is-possible-requires c κs = long (c .before .before .before .before .before .before .before .before .before .before .before .args .s .now) (c .before .before .before .before .before .before .before .before .seat-fits .result) (c .before .before .before .before .before .before .before .before .seat-fits .ensures) (c .before .before .before .before .before .before .before .if1 .left)
+is-possible-requires c κs =
+    possible-asks
+    (c .before .before .before .before .before .before .before .before .before .before .before .args .s .now)
+    (c .before .before .before .before .before .before .before .before .seat-fits .result)
+    (c .before .before .before .before .before .before .before .before .seat-fits .ensures)
+    (c .before .before .before .before .before .before .before .if1 .left)
+    (c .before .before .before .before .before .head .result)
+    (c .before .before .before .before .before .head .ensures)
+    (c .before .if3 .left)
 
 slice-aggregate-put : tie.Need-slice-aggregate-put
 slice-aggregate-put c = search needs
@@ -44,7 +57,20 @@ returns-4 : tie.Need-returns-4
 returns-4 c = search needs
 
 append-requires : tie.Need-append-requires
-append-requires c κs = step-asks (c .before .before .before .before .before .before .before .before .before .before .before .before .before .before .args .s .now) (c .before .before .before .before .before .before .before .before .before .before .before .seat-fits .result) (c .before .before .before .before .before .before .before .before .before .before .before .seat-fits .ensures) (c .before .before .before .before .before .before .before .before .before .before .if1 .left) (c .before .before .before .before .before .before .before .before .head .result) (c .before .before .before .before .before .before .before .before .head .ensures) (c .before .before .before .before .before .before .if2 .left) (c .before .before .before .before .if3 .left) (c .before .before .before .before .before .before .before .before .before .before .before .before .before .before .args .x) (c .before .before .is-possible .result) (c .before .before .is-possible .ensures) (c .before .if4 .left)
+append-requires c κs =
+    step-asks
+    (c .before .before .before .before .before .before .before .before .before .before .before .before .before .before .args .s .now)
+    (c .before .before .before .before .before .before .before .before .before .before .before .seat-fits .result)
+    (c .before .before .before .before .before .before .before .before .before .before .before .seat-fits .ensures)
+    (c .before .before .before .before .before .before .before .before .before .before .if1 .left)
+    (c .before .before .before .before .before .before .before .before .head .result)
+    (c .before .before .before .before .before .before .before .before .head .ensures)
+    (c .before .before .before .before .before .before .if2 .left)
+    (c .before .before .before .before .if3 .left)
+    (c .before .before .before .before .before .before .before .before .before .before .before .before .before .before .args .x)
+    (c .before .before .is-possible .result)
+    (c .before .before .is-possible .ensures)
+    (c .before .if4 .left)
 
 slice-aggregate-put-2 : tie.Need-slice-aggregate-put-2
 slice-aggregate-put-2 c = search needs

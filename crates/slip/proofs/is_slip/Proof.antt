@@ -1,5 +1,5 @@
--- The code is the definition: both forms may say the same, and have their own seats.
-use Rattle.slip.proofs.Measured.{same-sayings, some-seats}
+-- The code is the definition: a form has its own sayings and its own seats.
+use Rattle.slip.proofs.Measured.{some-seats}
 use borrow.Author.Needs.{needs}
 use Rattle.slip.proofs.is_slip.Statement.{statement}
 use Rattle.slip.proofs.is_slip.Tie as tie
@@ -16,8 +16,7 @@ sub-result c = some-seats (c .before .before .args .form) (c .seats-in .result) 
 returns : tie.Need-returns
 returns c =
     let seats = c .before .before .before .before .before .seats-in in
-    let form = c .before .before .before .before .before .before .before .args .form in
-    rw (c .before .before .before .before .before .before .can-say .ensures, seats .ensures, same-sayings form)
+    rw (c .before .before .before .before .before .before .can-say .ensures, seats .ensures)
 
 pub is-slip-spec : {M : Type 1} → statement M
 is-slip-spec = tie.close (tie.spec can-say-requires seats-in-requires sub-result returns)

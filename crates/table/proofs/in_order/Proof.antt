@@ -26,6 +26,12 @@ enum-told-3 c = search needs
 in-pacs-028-requires : tie.Need-in-pacs-028-requires
 in-pacs-028-requires c κs = search needs
 
+enum-told-4 : tie.Need-enum-told-4
+enum-told-4 c = search needs
+
+in-pacs-002-requires : tie.Need-in-pacs-002-requires
+in-pacs-002-requires c κs = search needs
+
 returns-2 : tie.Need-returns-2
 returns-2 c = rw (c .before .enum-told .given .1) (c .in-pacs-008 .ensures)
 
@@ -34,6 +40,9 @@ returns-3 c = rw (c .before .enum-told2 .given .1) (c .in-camt-050 .ensures)
 
 returns-4 : tie.Need-returns-4
 returns-4 c = rw (c .before .enum-told3 .given .1) (c .in-pacs-028 .ensures)
+
+returns-5 : tie.Need-returns-5
+returns-5 c = rw (c .before .enum-told4 .given .1) (c .in-pacs-002 .ensures)
 
 pub in-order-spec : {M : Type 1} → statement M
 in-order-spec =
@@ -46,6 +55,9 @@ in-order-spec =
     in-camt-050-requires
     enum-told-3
     in-pacs-028-requires
+    enum-told-4
+    in-pacs-002-requires
     returns-2
     returns-3
-    returns-4)
+    returns-4
+    returns-5)

@@ -1,6 +1,5 @@
 -- The last four bytes of a line of twelve.
-use mathlib.Core.Path.{_≡_, sym, _∙_}
-use Rattle.table.specs.Checks.{isoOf, isoIn, lineOf}
+use Rattle.table.specs.Checks.{isoOf, lineOf}
 use Rattle.table.proofs.Lines.{line-length, last-four}
 use borrow.Author.Needs.{needs}
 use Rattle.table.proofs.iso_code.Statement.{statement}
@@ -8,12 +7,6 @@ use Rattle.table.proofs.iso_code.Tie as tie
 
 line-requires : tie.Need-line-requires
 line-requires c κs = search needs
-
-enum-told : tie.Need-enum-told
-enum-told c = search needs
-
-enum-told-2 : tie.Need-enum-told-2
-enum-told-2 c = search needs
 
 array-read-t8 : tie.Need-array-read-t8
 array-read-t8 c = search needs
@@ -27,20 +20,17 @@ array-read-t14 c = search needs
 array-read-t17 : tie.Need-array-read-t17
 array-read-t17 c = search needs
 
+enum-told : tie.Need-enum-told
+enum-told c = search needs
+
+enum-told-2 : tie.Need-enum-told-2
+enum-told-2 c = search needs
+
 enum-told-3 : tie.Need-enum-told-3
 enum-told-3 c = search needs
 
-array-read-t20 : tie.Need-array-read-t20
-array-read-t20 c = search needs
-
-array-read-t23 : tie.Need-array-read-t23
-array-read-t23 c = search needs
-
-array-read-t26 : tie.Need-array-read-t26
-array-read-t26 c = search needs
-
-array-read-t29 : tie.Need-array-read-t29
-array-read-t29 c = search needs
+enum-told-4 : tie.Need-enum-told-4
+enum-told-4 c = search needs
 
 returns : tie.Need-returns
 unfolding isoOf
@@ -48,28 +38,36 @@ returns c = rw (c .enum-told .given .1)
 
 returns-2 : tie.Need-returns-2
 unfolding isoOf
-returns-2 c = rw (c .enum-told2 .given .1, c .before .before .line .ensures) (last-four (lineOf (c .before .before .before .args .number)) (line-length (c .before .before .before .args .number)))
+returns-2 c =
+    rw (c .enum-told2 .given .1, c .before .before .line .ensures)
+    (last-four (lineOf (c .before .before .before .args .number)) (line-length (c .before .before .before .args .number)))
 
 returns-3 : tie.Need-returns-3
 unfolding isoOf
-returns-3 c = rw (c .enum-told3 .given .1, c .before .before .line .ensures) (last-four (lineOf (c .before .before .before .args .number)) (line-length (c .before .before .before .args .number)))
+returns-3 c =
+    rw (c .enum-told3 .given .1, c .before .before .line .ensures)
+    (last-four (lineOf (c .before .before .before .args .number)) (line-length (c .before .before .before .args .number)))
+
+returns-4 : tie.Need-returns-4
+unfolding isoOf
+returns-4 c =
+    rw (c .enum-told4 .given .1, c .before .before .line .ensures)
+    (last-four (lineOf (c .before .before .before .args .number)) (line-length (c .before .before .before .args .number)))
 
 pub iso-code-spec : {M : Type 1} → statement M
 iso-code-spec =
     tie.close
     (tie.spec
     line-requires
-    enum-told
-    enum-told-2
     array-read-t8
     array-read-t11
     array-read-t14
     array-read-t17
+    enum-told
+    enum-told-2
     enum-told-3
-    array-read-t20
-    array-read-t23
-    array-read-t26
-    array-read-t29
+    enum-told-4
     returns
     returns-2
-    returns-3)
+    returns-3
+    returns-4)

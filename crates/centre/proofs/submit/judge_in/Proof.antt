@@ -5,18 +5,12 @@ use borrow.Author.Needs.{needs}
 use Rattle.centre.proofs.submit.judge_in.Statement.{statement}
 use Rattle.centre.proofs.submit.judge_in.Tie as tie
 
--- back from where the head of the seat was read: the calls that made the step, the test that the check is neither 1 nor 2, and the start
-abbrev made : tie.After-head → tie.After-step-of
+-- back from where the head of the seat was read: the call that made the step, the test that the check is neither 1 nor 2, and the start
+abbrev made : tie.After-head → tie.After-step-by
 made c = c .before .before
 
-abbrev ended : tie.After-head → tie.After-end-of
-ended c = made c .before
-
-abbrev moved : tie.After-head → tie.After-movement-in
-moved c = ended c .before .before
-
 abbrev passed : tie.After-head → tie.Else1
-passed c = moved c .before .before
+passed c = made c .before .before
 
 abbrev start : tie.After-head → tie.Start
 start c = passed c .before .before .before .before .before
@@ -35,20 +29,14 @@ returns c =
     let check = c .before .first-failing in
     not-taken (given .ticket) (given .c) (given .s .now) (given .slip .now) (check .result) (check .ensures) (c .if1 .taken)
 
-movement-in-requires : tie.Need-movement-in-requires
-movement-in-requires c κs = tt
-
-end-of-requires : tie.Need-end-of-requires
-end-of-requires c κs =
-    let begun : tie.Start = c .before .before .before .before .before .before .before .before in
+step-by-requires : tie.Need-step-by-requires
+step-by-requires c κs =
+    let begun : tie.Start = c .before .before .before .before .before .before in
     seat-asks (begun .args .ticket) (begun .args .s .now) (begun .pre .0) (begun .pre .1)
-
-step-of-requires : tie.Need-step-of-requires
-step-of-requires c κs = tt
 
 head-requires : tie.Need-head-requires
 head-requires c κs =
-    let begun : tie.Start = c .before .before .before .before .before .before .before .before .before .before .before in
+    let begun : tie.Start = c .before .before .before .before .before .before .before .before in
     seat-asks (begun .args .ticket) (begun .args .s .now) (begun .pre .0) (begun .pre .1) .0
 
 append-requires : tie.Need-append-requires
@@ -58,8 +46,7 @@ append-requires c κs =
     let check = passed here .before .first-failing in
     let asked = start here .pre in
     append-asks (given .ticket) (given .c) (given .s .now) (given .slip .now) (check .result) (check .ensures) (passed here .if1 .left)
-    (moved here .movement-in .result) (moved here .movement-in .ensures) (ended here .end-of .result) (ended here .end-of .ensures)
-    (made here .step-of .result) (made here .step-of .ensures) (here .head .result) (here .head .ensures)
+    (made here .step-by .result) (made here .step-by .ensures) (here .head .result) (here .head .ensures)
     (asked .0) (asked .1) (asked .3) (asked .5)
 
 add-put-slip : tie.Need-add-put-slip
@@ -70,8 +57,7 @@ add-put-slip c =
     let asked = start here .pre in
     let low =
     count-low (given .ticket) (given .c) (given .s .now) (given .slip .now) (check .result) (check .ensures) (passed here .if1 .left)
-    (moved here .movement-in .result) (moved here .movement-in .ensures) (ended here .end-of .result) (ended here .end-of .ensures)
-    (made here .step-of .result) (made here .step-of .ensures) (here .head .result) (here .head .ensures)
+    (made here .step-by .result) (made here .step-by .ensures) (here .head .result) (here .head .ensures)
     (asked .0) (asked .1) (asked .3) (asked .5) in
     omega (arith, low)
 
@@ -82,8 +68,7 @@ put-slip-requires c κs =
     let check = passed here .before .first-failing in
     let asked = start here .pre in
     slip-asks (given .ticket) (given .c) (given .s .now) (given .slip .now) (check .result) (check .ensures) (passed here .if1 .left)
-    (moved here .movement-in .result) (moved here .movement-in .ensures) (ended here .end-of .result) (ended here .end-of .ensures)
-    (made here .step-of .result) (made here .step-of .ensures) (here .head .result) (here .head .ensures)
+    (made here .step-by .result) (made here .step-by .ensures) (here .head .result) (here .head .ensures)
     (asked .0) (asked .1) (asked .3) (asked .5) (asked .2) (asked .4)
 
 same-length-2 : tie.Need-same-length-2
@@ -100,8 +85,7 @@ returns-2 c =
     let stepped = c .before .before .before .before .before .before .before .append in
     let wrote = c .before .before .put-slip in
     taken (given .ticket) (given .c) (given .s .now) (given .slip .now) (check .result) (check .ensures) (passed here .if1 .left)
-    (moved here .movement-in .result) (moved here .movement-in .ensures) (ended here .end-of .result) (ended here .end-of .ensures)
-    (made here .step-of .result) (made here .step-of .ensures) (here .head .result) (here .head .ensures)
+    (made here .step-by .result) (made here .step-by .ensures) (here .head .result) (here .head .ensures)
     (stepped .last .0) (wrote .last .1 .1 .1 .0) (stepped .ensures) (wrote .ensures)
 
 pub judge-in-spec : {M : Type 1} → statement M
@@ -111,9 +95,7 @@ judge-in-spec =
     first-failing-requires
     same-length
     returns
-    movement-in-requires
-    end-of-requires
-    step-of-requires
+    step-by-requires
     head-requires
     append-requires
     add-put-slip

@@ -9,8 +9,8 @@ result-fits-requires c κs = tt
 is-stored-requires : tie.Need-is-stored-requires
 is-stored-requires c κs = tt
 
-is-stored-uetr-requires : tie.Need-is-stored-uetr-requires
-is-stored-uetr-requires c κs = tt
+uetr-fits-requires : tie.Need-uetr-fits-requires
+uetr-fits-requires c κs = tt
 
 is-time-requires : tie.Need-is-time-requires
 is-time-requires c κs = tt
@@ -21,6 +21,12 @@ reference-fits-requires c κs = tt
 movement-fits-requires : tie.Need-movement-fits-requires
 movement-fits-requires c κs = tt
 
+receiver-fits-requires : tie.Need-receiver-fits-requires
+receiver-fits-requires c κs = tt
+
+answers-fits-requires : tie.Need-answers-fits-requires
+answers-fits-requires c κs = tt
+
 no-set-requires : tie.Need-no-set-requires
 no-set-requires c κs = tt
 
@@ -28,12 +34,14 @@ returns : tie.Need-returns
 unfolding messageFits
 returns c =
     rw (
-      c .before .before .before .before .before .before .before .result-fits .ensures,
-      c .before .before .before .before .before .is-stored .ensures,
-      c .before .before .before .before .is-stored-uetr .ensures,
-      c .before .before .before .is-time .ensures,
-      c .before .before .reference-fits .ensures,
-      c .before .movement-fits .ensures,
+      c .before .before .before .before .before .before .before .before .before .result-fits .ensures,
+      c .before .before .before .before .before .before .before .is-stored .ensures,
+      c .before .before .before .before .before .before .uetr-fits .ensures,
+      c .before .before .before .before .before .is-time .ensures,
+      c .before .before .before .before .reference-fits .ensures,
+      c .before .before .before .movement-fits .ensures,
+      c .before .before .receiver-fits .ensures,
+      c .before .answers-fits .ensures,
       c .no-set .ensures,
     )
 
@@ -43,9 +51,11 @@ message-fits-spec =
     (tie.spec
     result-fits-requires
     is-stored-requires
-    is-stored-uetr-requires
+    uetr-fits-requires
     is-time-requires
     reference-fits-requires
     movement-fits-requires
+    receiver-fits-requires
+    answers-fits-requires
     no-set-requires
     returns)

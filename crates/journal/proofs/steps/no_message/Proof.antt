@@ -9,6 +9,9 @@ no-identifier-requires c κs = tt
 same-identifier-requires : tie.Need-same-identifier-requires
 same-identifier-requires c κs = tt
 
+no-uetr-requires : tie.Need-no-uetr-requires
+no-uetr-requires c κs = tt
+
 no-identifier-requires-2 : tie.Need-no-identifier-requires-2
 no-identifier-requires-2 c κs = tt
 
@@ -17,7 +20,14 @@ same-identifier-requires-2 c κs = tt
 
 returns : tie.Need-returns
 unfolding noMessage
-returns c = rw (c .before .before .before .before .before .same-identifier .ensures, c .same-identifier2 .ensures, c .before .before .before .before .before .before .no-identifier .ensures, c .before .no-identifier2 .ensures)
+returns c =
+    rw (
+      c .before .before .before .before .before .before .same-identifier .ensures,
+      c .before .before .before .before .before .before .before .no-identifier .ensures,
+      c .before .before .before .before .before .no-uetr .ensures,
+      c .before .before .same-identifier2 .ensures,
+      c .before .before .before .no-identifier2 .ensures,
+    )
 
 pub no-message-spec : {M : Type 1} → statement M
 no-message-spec =
@@ -25,6 +35,7 @@ no-message-spec =
     (tie.spec
     no-identifier-requires
     same-identifier-requires
+    no-uetr-requires
     no-identifier-requires-2
     same-identifier-requires-2
     returns)

@@ -1,5 +1,4 @@
 -- The test of the kind picks the same arm in both.
-use borrow.Author.Tests.{eq-eqb, ne-eqb}
 use Rattle.slip.specs.Meaning.{kindNumber}
 use Rattle.journal.specs.Steps.{referenceFits}
 use Rattle.journal.proofs.steps.reference_fits.Statement.{statement}
@@ -13,14 +12,14 @@ same-identifier-requires c κs = tt
 
 returns : tie.Need-returns
 unfolding referenceFits kindNumber
-returns c = rw (eq-eqb (c .before .before .before .before .args .x .kind) 2 (c .before .before .if1 .taken), c .same-identifier .ensures, c .before .no-identifier .ensures)
+returns c = rw (c .before .before .if1 .taken, c .same-identifier .ensures, c .before .no-identifier .ensures)
 
 is-stored-requires : tie.Need-is-stored-requires
 is-stored-requires c κs = tt
 
 returns-2 : tie.Need-returns-2
 unfolding referenceFits kindNumber
-returns-2 c = rw (ne-eqb (c .before .before .before .args .x .kind) 2 (c .before .if1 .left), c .is-stored .ensures)
+returns-2 c = rw (c .before .if1 .left, c .is-stored .ensures)
 
 pub reference-fits-spec : {M : Type 1} → statement M
 reference-fits-spec =

@@ -5,13 +5,13 @@ use native.Mathlib.Omega.{arith}
 use Rattle.slip.specs.Meaning.{steps}
 use Rattle.layout.specs.declared.rows.Head.{Head}
 use Rattle.journal.specs.Working.{stepsFrom}
-use Rattle.journal.specs.Traces.{firstIn, earliest}
+use Rattle.journal.specs.Traces.{leaves, firstIn, earliest}
 use Rattle.journal.proofs.TraceLaws.{look-begin, look-hit, look-miss, look-end}
 use Rattle.journal.proofs.traces.earliest.Statement.{statement}
 use Rattle.journal.proofs.traces.earliest.Tie as tie
 
 abbrev Inv-loop : tie.InvT-loop
-Inv-loop s trace count k₀ k = (count ≤ steps) × (earliest trace s ≡ firstIn trace k (stepsFrom s k (count - k)))
+Inv-loop s trace count k₀ k = (count ≤ steps) × (earliest trace s ≡ firstIn (leaves trace s) k (stepsFrom s k (count - k)))
 
 abbrev μ-loop : tie.MeasureT-loop
 μ-loop s trace count k₀ k = count - k
@@ -26,7 +26,10 @@ step-requires : tie.Need-step-requires Inv-loop μ-loop
 step-requires c κs = (c .before .before .before .before .pre .0, omega (arith, c .before .loop .inv .0, c .loop-test .taken))
 
 leaves-requires : tie.Need-leaves-requires Inv-loop μ-loop
-leaves-requires c κs = tt
+leaves-requires c κs =
+    let turn = c .before .before in
+    let start = turn .before .before .before in
+    (start .pre .0, start .pre .1, omega (arith, turn .loop .inv .0, c .before .loop-test .taken))
 
 returns : tie.Need-returns Inv-loop μ-loop
 returns c = sym (c .before .before .before .before .loop .inv .1 ∙ look-hit (c .before .before .before .before .before .before .before .args .trace) (c .before .before .before .before .before .before .before .args .s .now) (c .before .before .step .result) (c .before .before .before .before .loop .k) (c .before .before .before .before .before .head .result .steps) (c .before .before .before .loop-test .taken) (c .before .before .step .ensures) (sym (c .before .leaves .ensures) ∙ c .if1 .taken))

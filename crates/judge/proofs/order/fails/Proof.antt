@@ -64,31 +64,31 @@ debtor-not-hryvnia-requires : tie.Need-debtor-not-hryvnia-requires
 debtor-not-hryvnia-requires c κs = tt
 
 movement-in-requires : tie.Need-movement-in-requires
-movement-in-requires c κs = tt
+movement-in-requires c κs = c .before .before .pre
 
 debit-blocked-requires : tie.Need-debit-blocked-requires
 debit-blocked-requires c κs = c .before .before .before .pre .0
 
 movement-in-requires-2 : tie.Need-movement-in-requires-2
-movement-in-requires-2 c κs = tt
+movement-in-requires-2 c κs = c .before .before .pre
 
 credit-blocked-requires : tie.Need-credit-blocked-requires
 credit-blocked-requires c κs = c .before .before .before .pre .0
 
 movement-in-requires-3 : tie.Need-movement-in-requires-3
-movement-in-requires-3 c κs = tt
+movement-in-requires-3 c κs = c .before .before .pre
 
 money-short-requires : tie.Need-money-short-requires
 money-short-requires c κs = c .before .before .before .pre .0
 
 movement-in-requires-4 : tie.Need-movement-in-requires-4
-movement-in-requires-4 c κs = tt
+movement-in-requires-4 c κs = c .before .before .pre
 
 limit-passed-requires : tie.Need-limit-passed-requires
 limit-passed-requires c κs = c .before .before .before .pre .0
 
 movement-in-requires-5 : tie.Need-movement-in-requires-5
-movement-in-requires-5 c κs = tt
+movement-in-requires-5 c κs = c .before .before .pre
 
 limit-zero-requires : tie.Need-limit-zero-requires
 limit-zero-requires c κs = c .before .before .before .pre .0
@@ -122,6 +122,15 @@ instructing-not-serving-requires c κs = tt
 
 iban-wrong-requires : tie.Need-iban-wrong-requires
 iban-wrong-requires c κs = tt
+
+nothing-due-requires : tie.Need-nothing-due-requires
+nothing-due-requires c κs = c .before .before .pre
+
+transfer-declined-requires : tie.Need-transfer-declined-requires
+transfer-declined-requires c κs = tt
+
+credit-refused-requires : tie.Need-credit-refused-requires
+credit-refused-requires c κs = tt
 
 returns : tie.Need-returns
 unfolding fails rowsOf
@@ -260,7 +269,19 @@ unfolding fails rowsOf
 returns-34 c = rw (c .before .match .keys34) (c .iban-wrong .ensures)
 
 returns-35 : tie.Need-returns-35
-returns-35 c = sym (outside (c .before .before .args .c) (now (c .before .before .args .s)) (c .before .before .args .number) (c .match .rest))
+unfolding fails rowsOf
+returns-35 c = rw (c .before .match .keys35) (c .nothing-due .ensures)
+
+returns-36 : tie.Need-returns-36
+unfolding fails rowsOf
+returns-36 c = rw (c .before .match .keys36) (c .transfer-declined .ensures)
+
+returns-37 : tie.Need-returns-37
+unfolding fails rowsOf
+returns-37 c = rw (c .before .match .keys37) (c .credit-refused .ensures)
+
+returns-38 : tie.Need-returns-38
+returns-38 c = sym (outside (c .before .before .args .c) (now (c .before .before .args .s)) (c .before .before .args .number) (c .match .rest))
 
 pub fails-spec : {M : Type 1} → statement M
 fails-spec =
@@ -305,6 +326,9 @@ fails-spec =
     previous-not-serving-requires
     instructing-not-serving-requires
     iban-wrong-requires
+    nothing-due-requires
+    transfer-declined-requires
+    credit-refused-requires
     returns
     returns-2
     returns-3
@@ -339,4 +363,7 @@ fails-spec =
     returns-32
     returns-33
     returns-34
-    returns-35)
+    returns-35
+    returns-36
+    returns-37
+    returns-38)

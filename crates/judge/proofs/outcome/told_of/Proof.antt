@@ -14,7 +14,7 @@ enum-known-payment c = search needs
 result-now-requires : tie.Need-result-now-requires
 result-now-requires c κs =
     let start : tie.Start = c .before .before .before .before in
-    (start .pre .0, ltb-true _ steps (sym (ap placeFits (c .before .payment .given .1)) ∙ start .pre .1))
+    (start .pre .0, start .pre .1, ltb-true _ steps (sym (ap placeFits (c .before .payment .given .1)) ∙ start .pre .2))
 
 enum-told : tie.Need-enum-told
 enum-told c = search needs

@@ -1,4 +1,4 @@
--- The 29 numbers are read at the places where the definition reads them.
+-- The 31 numbers are read at the places where the definition reads them.
 use Rattle.layout.proofs.RowLaws.{step-places}
 use borrow.Author.Needs.{needs}
 use Rattle.layout.proofs.rows.read_step.Statement.{statement}
@@ -91,8 +91,17 @@ shared-slice-read-t61 c = search needs
 shared-slice-read-t63 : tie.Need-shared-slice-read-t63
 shared-slice-read-t63 c = search needs
 
+shared-slice-read-t66 : tie.Need-shared-slice-read-t66
+shared-slice-read-t66 c = search needs
+
+shared-slice-read-t68 : tie.Need-shared-slice-read-t68
+shared-slice-read-t68 c = search needs
+
 returns : tie.Need-returns
-returns c = step-places (c .before .before .before .before .before .before .before .before .before .before .before .before .before .before .before .before .before .before .before .before .before .before .before .before .before .before .before .before .before .args .s .now)
+returns c =
+    step-places (c .before .before .before .before .before .before .before .before
+    .before .before .before .before .before .before .before .before .before .before .before .before
+    .before .before .before .before .before .before .before .before .before .before .before .args .s .now)
 
 pub read-step-spec : {M : Type 1} → statement M
 read-step-spec =
@@ -127,4 +136,6 @@ read-step-spec =
     shared-slice-read-t59
     shared-slice-read-t61
     shared-slice-read-t63
+    shared-slice-read-t66
+    shared-slice-read-t68
     returns)

@@ -1,4 +1,4 @@
--- Stores at the 29 places, one for each number of the row, fill a part of 29.
+-- Stores at the 31 places, one for each number of the row, fill a part of 31.
 use native.Mathlib.Omega.{arith}
 use lib.ListN.{length-set}
 use Rattle.layout.specs.Rows.{stepRow}
@@ -94,6 +94,12 @@ slice-write-s-28 c = simp length-set (omega arith)
 slice-write-s-29 : tie.Need-slice-write-s-29
 slice-write-s-29 c = simp length-set (omega arith)
 
+slice-write-s-30 : tie.Need-slice-write-s-30
+slice-write-s-30 c = simp length-set (omega arith)
+
+slice-write-s-31 : tie.Need-slice-write-s-31
+slice-write-s-31 c = simp length-set (omega arith)
+
 same-length : tie.Need-same-length
 same-length c = simp length-set
 
@@ -134,5 +140,7 @@ write-step-spec =
     slice-write-s-27
     slice-write-s-28
     slice-write-s-29
+    slice-write-s-30
+    slice-write-s-31
     same-length
     returns)

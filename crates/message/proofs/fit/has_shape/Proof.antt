@@ -77,6 +77,30 @@ enum-told-9 c = search needs
 names-pacs-008-requires : tie.Need-names-pacs-008-requires
 names-pacs-008-requires c κs = search needs
 
+enum-told-10 : tie.Need-enum-told-10
+enum-told-10 c = search needs
+
+slice-aggregate-matches-4 : tie.Need-slice-aggregate-matches-4
+slice-aggregate-matches-4 c = search needs
+
+matches-requires-4 : tie.Need-matches-requires-4
+matches-requires-4 c κs = search needs
+
+slice-aggregate-matches-5 : tie.Need-slice-aggregate-matches-5
+slice-aggregate-matches-5 c = search needs
+
+matches-requires-5 : tie.Need-matches-requires-5
+matches-requires-5 c κs = search needs
+
+enum-told-11 : tie.Need-enum-told-11
+enum-told-11 c = search needs
+
+slice-aggregate-matches-6 : tie.Need-slice-aggregate-matches-6
+slice-aggregate-matches-6 c = search needs
+
+matches-requires-6 : tie.Need-matches-requires-6
+matches-requires-6 c κs = search needs
+
 returns : tie.Need-returns
 unfolding hasShape
 returns c = rw (c .before .enum-told .given .1) (c .is-identifier .ensures)
@@ -113,6 +137,14 @@ returns-9 : tie.Need-returns-9
 unfolding hasShape
 returns-9 c = rw (c .before .enum-told9 .given .1) (c .names-pacs-008 .ensures)
 
+returns-10 : tie.Need-returns-10
+unfolding hasShape
+returns-10 c = rw (c .before .before .before .before .enum-told10 .given .1, c .before .before .matches4 .ensures, c .matches5 .ensures)
+
+returns-11 : tie.Need-returns-11
+unfolding hasShape
+returns-11 c = rw (c .before .before .enum-told11 .given .1) (c .matches6 .ensures)
+
 pub has-shape-spec : {M : Type 1} → statement M
 has-shape-spec =
     tie.close
@@ -141,6 +173,14 @@ has-shape-spec =
     matches-requires-3
     enum-told-9
     names-pacs-008-requires
+    enum-told-10
+    slice-aggregate-matches-4
+    matches-requires-4
+    slice-aggregate-matches-5
+    matches-requires-5
+    enum-told-11
+    slice-aggregate-matches-6
+    matches-requires-6
     returns
     returns-2
     returns-3
@@ -149,4 +189,6 @@ has-shape-spec =
     returns-6
     returns-7
     returns-8
-    returns-9)
+    returns-9
+    returns-10
+    returns-11)

@@ -1,5 +1,5 @@
 -- Each arm reads its kind's table.
-use Rattle.table.specs.declared.Kind.the-variants.{Pacs008, Camt050, Pacs028}
+use Rattle.table.specs.declared.Kind.the-variants.{Pacs008, Camt050, Pacs028, Pacs002}
 use Rattle.message.specs.Fields.{fieldsOf}
 use Rattle.message.proofs.Entries.{entry-found}
 use borrow.Author.Needs.{needs}
@@ -27,6 +27,13 @@ pacs-028-requires : tie.Need-pacs-028-requires
 unfolding fieldsOf
 pacs-028-requires c κs = rw (c .enum-told3 .given .1) at (c .before .before .pre)
 
+enum-told-4 : tie.Need-enum-told-4
+enum-told-4 c = search needs
+
+pacs-002-requires : tie.Need-pacs-002-requires
+unfolding fieldsOf
+pacs-002-requires c κs = rw (c .enum-told4 .given .1) at (c .before .before .pre)
+
 returns : tie.Need-returns
 unfolding fieldsOf
 returns c = entry-found (c .before .before .before .args .kind) Pacs008 (c .before .before .before .args .place) (c .pacs-008 .result) (c .before .enum-told .given .1) (c .pacs-008 .ensures)
@@ -39,6 +46,12 @@ returns-3 : tie.Need-returns-3
 unfolding fieldsOf
 returns-3 c = entry-found (c .before .before .before .args .kind) Pacs028 (c .before .before .before .args .place) (c .pacs-028 .result) (c .before .enum-told3 .given .1) (c .pacs-028 .ensures)
 
+returns-4 : tie.Need-returns-4
+unfolding fieldsOf
+returns-4 c =
+    let start = c .before .before .before .args in
+    entry-found (start .kind) Pacs002 (start .place) (c .pacs-002 .result) (c .before .enum-told4 .given .1) (c .pacs-002 .ensures)
+
 pub entry-at-spec : {M : Type 1} → statement M
 entry-at-spec =
     tie.close
@@ -49,6 +62,9 @@ entry-at-spec =
     camt-050-requires
     enum-told-3
     pacs-028-requires
+    enum-told-4
+    pacs-002-requires
     returns
     returns-2
-    returns-3)
+    returns-3
+    returns-4)

@@ -33,9 +33,32 @@ returns-4 : tie.Need-returns-4
 unfolding kindSeen bodyOf nodeOf childOf nameOf names firsts sameName
 returns-4 c = rw (eq-eqb _ _ (c .before .before .before .before .before .before .if1 .left), ne-eqb _ _ (c .before .before .before .before .if2 .left), ne-eqb _ _ (c .before .before .if3 .left), eq-eqb _ _ (c .if4 .taken))
 
+element-copy-out-if5 : tie.Need-element-copy-out-if5
+element-copy-out-if5 c = search needs
+
 returns-5 : tie.Need-returns-5
 unfolding kindSeen bodyOf nodeOf childOf nameOf names firsts sameName
-returns-5 c = rw (eq-eqb _ _ (c .before .before .before .before .before .before .if1 .left), ne-eqb _ _ (c .before .before .before .before .if2 .left), ne-eqb _ _ (c .before .before .if3 .left), ne-eqb _ _ (c .if4 .left))
+returns-5 c =
+    let at-if3 = c .before .before .before .before in
+    rw (
+      eq-eqb _ _ (at-if3 .before .before .before .before .if1 .left),
+      ne-eqb _ _ (at-if3 .before .before .if2 .left),
+      ne-eqb _ _ (at-if3 .if3 .left),
+      ne-eqb _ _ (c .before .before .if4 .left),
+      eq-eqb _ _ (c .if5 .taken),
+    )
+
+returns-6 : tie.Need-returns-6
+unfolding kindSeen bodyOf nodeOf childOf nameOf names firsts sameName
+returns-6 c =
+    let at-if3 = c .before .before .before .before in
+    rw (
+      eq-eqb _ _ (at-if3 .before .before .before .before .if1 .left),
+      ne-eqb _ _ (at-if3 .before .before .if2 .left),
+      ne-eqb _ _ (at-if3 .if3 .left),
+      ne-eqb _ _ (c .before .before .if4 .left),
+      ne-eqb _ _ (c .if5 .left),
+    )
 
 pub kind-of-spec : {M : Type 1} → statement M
 kind-of-spec =
@@ -48,4 +71,6 @@ kind-of-spec =
     returns-3
     element-copy-out-if4
     returns-4
-    returns-5)
+    element-copy-out-if5
+    returns-5
+    returns-6)

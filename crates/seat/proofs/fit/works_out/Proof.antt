@@ -31,7 +31,9 @@ slice-aggregate-is-possible : tie.Need-slice-aggregate-is-possible Inv-loop μ-l
 slice-aggregate-is-possible c = sym (c .before .before .before .loop .inv .grown .long)
 
 is-possible-requires : tie.Need-is-possible-requires Inv-loop μ-loop
-is-possible-requires c κs = c .before .before .before .loop .inv .grown .long
+is-possible-requires c κs =
+    let turn = c .before .before .before .loop .inv in
+    (turn .grown .long, omega (arith, turn .counted, turn .within, turn .most))
 
 returns : tie.Need-returns Inv-loop μ-loop
 returns c = works-not (c .before .before .before .before .before .before .before .before .before .before .before .args .s .now) (c .before .before .before .before .before .before .before .before .before .before .before .args .opening) (c .before .before .before .before .before .before .before .before .before .before .before .args .count) (c .before .before .before .before .before .before .before .before .before .before .before .args .given .now) (c .before .before .before .before .before .loop .t) (c .before .before .before .before .before .loop .k) (c .before .before .before .step .result) (c .before .before .before .before .before .loop .inv) (c .before .before .before .before .loop-test .taken) (c .before .before .before .step .ensures) (sym (c .before .is-possible .ensures) ∙ not-true _ (c .if1 .taken))

@@ -1,0 +1,36 @@
+-- Each return rewrites with the tests that led there.
+use mathlib.Core.Path.{sym}
+use borrow.Author.Tests.{eq-eqb, ne-eqb}
+use Rattle.slip.specs.Meaning.{statusNumber}
+use Rattle.journal.specs.Results.{toldAs}
+use Rattle.journal.proofs.ResultLaws.{told-settled}
+use borrow.Author.Needs.{needs}
+use Rattle.journal.proofs.results.can_be_told.Statement.{statement}
+use Rattle.journal.proofs.results.can_be_told.Tie as tie
+
+returns : tie.Need-returns
+returns c = sym (told-settled _ _ (c .if1 .taken))
+
+returns-2 : tie.Need-returns-2
+unfolding toldAs statusNumber
+returns-2 c = rw (ne-eqb _ _ (c .before .if1 .left), ne-eqb _ _ (c .if2 .taken))
+
+can-fail-requires : tie.Need-can-fail-requires
+can-fail-requires c κs = search needs
+
+is-rejecting-requires : tie.Need-is-rejecting-requires
+is-rejecting-requires c κs = search needs
+
+returns-3 : tie.Need-returns-3
+unfolding toldAs statusNumber
+returns-3 c =
+    rw (
+      ne-eqb _ _ (c .before .before .before .if1 .left),
+      eq-eqb _ _ (c .before .before .if2 .left),
+      c .before .can-fail .ensures,
+      c .is-rejecting .ensures,
+    )
+
+pub can-be-told-spec : {M : Type 1} → statement M
+can-be-told-spec =
+    tie.close (tie.spec returns returns-2 can-fail-requires is-rejecting-requires returns-3)
