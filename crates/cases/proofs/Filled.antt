@@ -7,7 +7,7 @@ use Prim.Native.Nat.{ℕ, zero, suc}
 use lib.ListN.{replicate}
 use Rattle.directory.specs.Directory.{foundFrom, found}
 use Rattle.layout.specs.Seat.{seatOf, withSeat}
-use Rattle.seat.specs.declared.calls.Limit.the-variants.{None}
+use Rattle.seat.specs.declared.settings.Limit.the-variants.{None}
 use Rattle.strike.specs.Strike.{events}
 use Rattle.centre.specs.Answers.{Told, done, refused, isDone, behind}
 use Rattle.centre.specs.Calls.{setIn, setTold, setAfter}

@@ -28,7 +28,8 @@ use Rattle.directory.specs.Directory.{foundFrom, isFit, ownerUsed, found}
 use Rattle.layout.specs.Parts.{put, part}
 use Rattle.layout.specs.Rows.{accountRow, headRow, stepRow, stepIn, accountIn, headIn}
 use Rattle.layout.specs.Seat.{headOf, withStep, seatOf, accountOf as layoutAccountOf, withSeat, stepOf, withAccount, withHead}
-use Rattle.seat.specs.Calls.{noTicket, accountFound, sumsGood, pairGood, limitNumber, settingsOf, accountNamed}
+use Rattle.seat.specs.Settings.{limitNumber, settingsOf}
+use Rattle.seat.specs.Calls.{noTicket, accountFound, sumsGood, pairGood, accountNamed}
 use Rattle.seat.specs.Fit.{seatFits, closedFits, closedSeat, openFits, openSeat, sumsOf, openAccounts, roomFits, sumsFrom, same}
 use Rattle.journal.specs.Traces.{earliest, waitsAs, leaves, firstIn, isThere, isKnown}
 use Rattle.journal.specs.Results.{failsBy, endsAs, sentAs, toldAs, resultFits}

@@ -18,9 +18,9 @@ use Rattle.slip.specs.Meaning.{slipLong, kindNumber, statusNumber}
 use Rattle.slip.specs.Image.{image}
 use Rattle.directory.specs.declared.Participant.{Participant}
 use Rattle.directory.specs.declared.Kind.the-variants.{Owner, Direct, Indirect}
-use Rattle.seat.specs.declared.calls.Wish.{Wish}
-use Rattle.seat.specs.declared.calls.Limit.{Limit}
-use Rattle.seat.specs.declared.calls.Limit.the-variants.{Of, None}
+use Rattle.seat.specs.declared.settings.Wish.{Wish}
+use Rattle.seat.specs.declared.settings.Limit.{Limit}
+use Rattle.seat.specs.declared.settings.Limit.the-variants.{Of, None}
 use Rattle.strike.specs.Strike.{events}
 use Rattle.centre.specs.declared.Ticket.{Ticket}
 use Rattle.centre.specs.Answers.{Told, done, refused, refusedWith}

@@ -11,7 +11,7 @@ use Rattle.directory.specs.declared.Gathered.{Gathered}
 use Rattle.directory.specs.Directory.{isFit}
 use Rattle.directory.specs.Gathering.{gathered, directoryIn}
 use Rattle.directory.proofs.Gathers.{directory-gathered, directory-fit-gathered}
-use Rattle.seat.specs.declared.calls.Wish.{Wish}
+use Rattle.seat.specs.declared.settings.Wish.{Wish}
 use Rattle.seat.specs.Fit.{roomFits}
 use Rattle.centre.specs.declared.Ticket.{Ticket}
 use Rattle.centre.specs.Answers.{Told, refused, isDone, behind}

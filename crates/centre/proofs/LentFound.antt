@@ -14,7 +14,7 @@ use Rattle.directory.proofs.Finds.{fit-few}
 use Rattle.directory.proofs.Gathers.{fits-is-fit}
 use Rattle.judge.proofs.Places.{found-fits}
 use Rattle.seat.specs.Calls.{placeFits}
-use Rattle.seat.specs.declared.calls.Wish.{Wish}
+use Rattle.seat.specs.declared.settings.Wish.{Wish}
 use Rattle.centre.specs.declared.Ticket.{Ticket}
 use Rattle.centre.specs.Calls.{readBy, readTold, setBy, setLeft, setTold, setAfter}
 

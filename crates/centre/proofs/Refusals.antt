@@ -25,14 +25,14 @@ use Rattle.journal.specs.Working.{backed}
 use Rattle.seat.specs.declared.calls.Answer as seat
 use Rattle.seat.specs.declared.calls.Answer.the-variants as seat-answer
 use Rattle.seat.specs.declared.calls.Reading.{Reading}
-use Rattle.seat.specs.declared.calls.Wish.{Wish}
+use Rattle.seat.specs.declared.settings.Wish.{Wish}
 use Rattle.seat.specs.Fit.{closedSeat, openSeat, roomFits}
+use Rattle.seat.specs.Settings.{settingsOf}
 use Rattle.seat.specs.Calls.{
   noTicket,
   sumsGood,
   accountNamed,
   accountNumber,
-  settingsOf,
   openAnswer,
   closeAnswer,
   setAnswer,

@@ -26,9 +26,10 @@ use Rattle.layout.specs.Seat.{seatLong, roomLong, headOf, withHead, accountOf, 
 use Rattle.layout.proofs.RowLaws.{account-read}
 use Rattle.journal.specs.Steps.{noStep, settingsFit}
 use Rattle.journal.specs.Working.{uneffect, counting, lastStep, backed}
-use Rattle.seat.specs.declared.calls.Wish.{Wish}
+use Rattle.seat.specs.declared.settings.Wish.{Wish}
 use Rattle.seat.specs.Fit.{closedSeat, roomFits}
-use Rattle.seat.specs.Calls.{sumsGood, accountNamed, accountNumber, settingsOf, setStep}
+use Rattle.seat.specs.Settings.{settingsOf}
+use Rattle.seat.specs.Calls.{sumsGood, accountNamed, accountNumber, setStep}
 use Rattle.seat.proofs.Answered.{ticket-good}
 use Rattle.centre.specs.declared.Answer.the-variants.{Done, Opened, Holds, Says, RoomUnfit}
 use Rattle.centre.specs.declared.Ticket.{Ticket}

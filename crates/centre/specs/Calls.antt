@@ -13,8 +13,9 @@ use Rattle.directory.specs.Directory.{found, isFit}
 use Rattle.layout.specs.Rows.{accountRow}
 use Rattle.layout.specs.Seat.{roomLong, headOf, accountOf, seatOf, withSeat}
 use Rattle.journal.specs.Working.{stepped, backed}
-use Rattle.seat.specs.declared.calls.Wish.{Wish}
+use Rattle.seat.specs.declared.settings.Wish.{Wish}
 use Rattle.seat.specs.Fit.{closedSeat, openSeat, roomFits}
+use Rattle.seat.specs.Settings.{settingsOf}
 use Rattle.seat.specs.Calls.{
   noTicket,
   seatOpen,
@@ -25,7 +26,6 @@ use Rattle.seat.specs.Calls.{
   accountBad,
   settingBad,
   accountNumber,
-  settingsOf,
   setStep,
 }
 use Rattle.centre.specs.declared.Ticket.{Ticket}

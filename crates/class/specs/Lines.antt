@@ -6,9 +6,9 @@ use Prim.Native.Nat.{ℕ, _-_}
 use lib.Dec.{eqb}
 use lib.ListN.{getD, take, drop}
 use Rattle.directory.specs.declared.Participant.{Participant}
-use Rattle.seat.specs.declared.calls.Limit.{Limit}
-use Rattle.seat.specs.declared.calls.Limit.the-variants.{None, Of}
-use Rattle.seat.specs.declared.calls.Wish.{Wish}
+use Rattle.seat.specs.declared.settings.Limit.{Limit}
+use Rattle.seat.specs.declared.settings.Limit.the-variants.{None, Of}
+use Rattle.seat.specs.declared.settings.Wish.{Wish}
 use Rattle.centre.specs.declared.Ticket.{Ticket}
 use Rattle.centre.specs.Answers.{Told, done, refused, first}
 use Rattle.centre.specs.Calls.{layTold, layAfter, openTold, openAfter, closeTold, closeAfter, setTold, setAfter, backTold, backAfter, readTold}

@@ -8,7 +8,7 @@ use Prim.Native.Nat.{ℕ, suc, _+_, _*_, _≤_}
 use Rattle.slip.specs.Meaning.{openings}
 use Rattle.directory.specs.declared.Gathered.{Gathered}
 use Rattle.directory.specs.Gathering.{gathered, directoryIn}
-use Rattle.seat.specs.declared.calls.Wish.{Wish}
+use Rattle.seat.specs.declared.settings.Wish.{Wish}
 use Rattle.centre.specs.declared.Answer.{Answer}
 use Rattle.centre.specs.declared.Ticket.{Ticket}
 use Rattle.centre.specs.Answers.{Told, told}

@@ -32,7 +32,7 @@ use Rattle.message.proofs.FieldShown.{fields-few}
 use Rattle.directory.specs.declared.Participant.{Participant}
 use Rattle.directory.specs.Directory.{codeMost, isFit}
 use Rattle.layout.specs.Seat.{headOf, seatOf}
-use Rattle.seat.specs.declared.calls.Wish.{Wish}
+use Rattle.seat.specs.declared.settings.Wish.{Wish}
 use Rattle.seat.specs.Calls.{sumsGood}
 use Rattle.seat.specs.Fit.{roomFits}
 use Rattle.seat.proofs.Asked.{opening-low}

@@ -17,7 +17,7 @@ use Rattle.layout.specs.declared.rows.Settings.{Settings}
 use Rattle.layout.specs.declared.rows.Account.{Account}
 use Rattle.layout.specs.Rows.{accountRow}
 use Rattle.journal.specs.Steps.{sumMost, settingsFit}
-use Rattle.seat.specs.Calls.{blockNumber, limitNumber, settingsOf}
+use Rattle.seat.specs.Settings.{blockNumber, limitNumber, settingsOf}
 use Rattle.centre.specs.declared.Answer.{Answer}
 use Rattle.centre.specs.declared.Answer.the-variants.{Opened, Holds, Says}
 use Rattle.centre.specs.Answers.{told, slipValues}

@@ -9,9 +9,9 @@ use lib.ListN.{length, getD, replicate}
 use Rattle.slip.specs.declared.Slip.{Slip}
 use Rattle.sheet.specs.Grammar.{sheetMost}
 use Rattle.journal.specs.Steps.{sumMost}
-use Rattle.seat.specs.declared.calls.Limit.{Limit}
-use Rattle.seat.specs.declared.calls.Limit.the-variants.{Of, None}
-use Rattle.seat.specs.declared.calls.Wish.{Wish}
+use Rattle.seat.specs.declared.settings.Limit.{Limit}
+use Rattle.seat.specs.declared.settings.Limit.the-variants.{Of, None}
+use Rattle.seat.specs.declared.settings.Wish.{Wish}
 use Rattle.centre.specs.declared.Ticket.{Ticket}
 use Rattle.centre.specs.Answers.{Told}
 

@@ -25,9 +25,10 @@ use Rattle.layout.specs.Seat.{headOf, accountOf}
 use Rattle.journal.specs.Steps.{settingsFit}
 use Rattle.journal.specs.Working.{possible, stepped}
 use Rattle.seat.specs.declared.calls.Answer.the-variants.{Done}
-use Rattle.seat.specs.declared.calls.Wish.{Wish}
+use Rattle.seat.specs.declared.settings.Wish.{Wish}
 use Rattle.seat.specs.Fit.{seatFits}
-use Rattle.seat.specs.Calls.{noTicket, sumsGood, openAnswer, closeAnswer, accountNamed, accountNumber, placeFits, settingsOf, setStep, setAnswer, backAnswer}
+use Rattle.seat.specs.Settings.{settingsOf}
+use Rattle.seat.specs.Calls.{noTicket, sumsGood, openAnswer, closeAnswer, accountNamed, accountNumber, placeFits, setStep, setAnswer, backAnswer}
 use Rattle.seat.proofs.Answered.{ticket-good}
 use Rattle.seat.proofs.Forward.{open-fits}
 use Rattle.seat.proofs.Kept.{fit-long, fit-open, set-open, set-room, set-can}

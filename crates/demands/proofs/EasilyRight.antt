@@ -7,10 +7,10 @@ use mathlib.Core.List.{List}
 use Prim.Native.Nat.{ℕ}
 use Rattle.layout.specs.declared.rows.Account.{Account}
 use Rattle.layout.specs.declared.rows.Step.{Step}
-use Rattle.seat.specs.declared.calls.Limit.the-variants.{Of, None}
+use Rattle.seat.specs.declared.settings.Limit.the-variants.{Of, None}
 use Rattle.journal.specs.Working.{stepped, backed}
 use Rattle.journal.specs.Limits.{turnoverAbove, turnoverShut}
-use Rattle.seat.specs.Calls.{limitNumber}
+use Rattle.seat.specs.Settings.{limitNumber}
 use Rattle.journal.proofs.Backed.{back-restores}
 use Rattle.seat.proofs.Reached.{fit-free}
 use Rattle.seat.proofs.Kept.{fit-long, fit-open}

@@ -19,7 +19,8 @@ use Rattle.layout.specs.Seat.{headOf, accountOf}
 use Rattle.journal.specs.Steps.{settingsFit}
 use Rattle.journal.specs.Working.{stepped, backed}
 use Rattle.seat.specs.Fit.{closedSeat, openSeat}
-use Rattle.seat.specs.Calls.{noTicket, sumsGood, accountNamed, accountNumber, settingsOf}
+use Rattle.seat.specs.Settings.{settingsOf}
+use Rattle.seat.specs.Calls.{noTicket, sumsGood, accountNamed, accountNumber}
 use Rattle.judge.specs.Case.{caseOf}
 use Rattle.centre.specs.declared.Ticket.{Ticket}
 use Rattle.centre.specs.Answers.{Told, done, refused, refusedWith, first, behind}

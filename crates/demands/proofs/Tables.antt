@@ -23,7 +23,8 @@ use Rattle.layout.specs.Rows.{accountRow}
 use Rattle.layout.specs.Seat.{headOf, accountOf, seatOf}
 use Rattle.journal.specs.Steps.{settingsFit}
 use Rattle.seat.specs.Fit.{roomFits}
-use Rattle.seat.specs.Calls.{sumsGood, accountNamed, accountNumber, settingsOf}
+use Rattle.seat.specs.Settings.{settingsOf}
+use Rattle.seat.specs.Calls.{sumsGood, accountNamed, accountNumber}
 use Rattle.judge.specs.Case.{caseOf}
 use Rattle.centre.specs.declared.Ticket.{Ticket}
 use Rattle.centre.specs.Answers.{Told, done, refused, refusedWith, slipValues, first}

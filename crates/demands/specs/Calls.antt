@@ -9,7 +9,7 @@ use Rattle.slip.specs.declared.Slip.{Slip}
 use Rattle.slip.specs.Answers.{writeAfter}
 use Rattle.directory.specs.declared.Participant.{Participant}
 use Rattle.layout.specs.Seat.{roomLong}
-use Rattle.seat.specs.declared.calls.Wish.{Wish}
+use Rattle.seat.specs.declared.settings.Wish.{Wish}
 use Rattle.centre.specs.declared.Ticket.{Ticket}
 use Rattle.centre.specs.Answers.{Told}
 use Rattle.centre.specs.Calls.{openTold, openAfter, closeTold, closeAfter, setTold, setAfter, backTold, backAfter, readTold}

@@ -20,8 +20,8 @@ use Rattle.journal.specs.Steps.{setKind, isKind}
 use Rattle.journal.specs.Working.{stepped, backed, possible}
 use Rattle.seat.specs.Fit.{seatFits}
 use Rattle.journal.specs.Limits.{turnoverAbove, turnoverShut}
-use Rattle.seat.specs.Calls.{limitNumber}
-use Rattle.seat.specs.declared.calls.Limit.the-variants.{Of, None}
+use Rattle.seat.specs.Settings.{limitNumber}
+use Rattle.seat.specs.declared.settings.Limit.the-variants.{Of, None}
 use Rattle.judge.specs.declared.case.Case.{Case}
 use Rattle.judge.specs.Rows.{identifierRepeated, uetrRepeated}
 use Rattle.centre.specs.declared.Ticket.{Ticket}

@@ -18,7 +18,8 @@ use Rattle.directory.specs.Directory.{found, isFit}
 use Rattle.layout.specs.Rows.{accountRow}
 use Rattle.layout.specs.Seat.{roomLong, headOf, accountOf, seatOf}
 use Rattle.seat.specs.Fit.{roomFits}
-use Rattle.seat.specs.Calls.{seatOpen, lastGivenOut, journalFull, nothingToTakeBack, sumsBad, accountBad, settingBad, accountNumber, settingsOf}
+use Rattle.seat.specs.Settings.{settingsOf}
+use Rattle.seat.specs.Calls.{seatOpen, lastGivenOut, journalFull, nothingToTakeBack, sumsBad, accountBad, settingBad, accountNumber}
 use Rattle.judge.specs.Case.{caseOf}
 use Rattle.centre.specs.declared.Ticket.{Ticket}
 use Rattle.centre.specs.Answers.{done as finished, refused, slipValues}

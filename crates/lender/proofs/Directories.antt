@@ -15,7 +15,7 @@ use Rattle.directory.specs.declared.Gathered.{Gathered}
 use Rattle.directory.specs.Directory.{isFit}
 use Rattle.directory.specs.Gathering.{recordsIn, directoryIn, fitGathered}
 use Rattle.directory.proofs.Gathers.{directory-fit, few-gathered}
-use Rattle.seat.specs.declared.calls.Wish.{Wish}
+use Rattle.seat.specs.declared.settings.Wish.{Wish}
 use Rattle.centre.specs.declared.Ticket.{Ticket}
 use Rattle.centre.specs.Calls.{openTold, openAfter, setTold, setAfter, readTold}
 use Rattle.centre.specs.Submit.{submitTold, submitAfter, submitSlip}

@@ -17,8 +17,8 @@ use Rattle.seat.proofs.calls.set_account.Kinds as set-account-kinds
 use Rattle.seat.proofs.calls.set_account.Reads as set-account-reads
 use Rattle.seat.proofs.calls.take_back.Kinds as take-back-kinds
 use Rattle.seat.proofs.calls.take_back.Reads as take-back-reads
-use Rattle.seat.proofs.calls.settings_of.Kinds as settings-of-kinds
-use Rattle.seat.proofs.calls.settings_of.Reads as settings-of-reads
+use Rattle.seat.proofs.settings.settings_of.Kinds as settings-of-kinds
+use Rattle.seat.proofs.settings.settings_of.Reads as settings-of-reads
 use Rattle.seat.proofs.calls.read_account.Kinds as read-account-kinds
 use Rattle.seat.proofs.calls.read_account.Reads as read-account-reads
 use Rattle.seat.proofs.calls.no_ticket.Kinds as no-ticket-kinds

@@ -21,9 +21,6 @@ use Rattle.journal.specs.Steps.{setKind, sumMost, settingsFit, noSettings, noId
 use Rattle.journal.specs.Working.{stepped, backed}
 use Rattle.seat.specs.declared.calls.Answer.{Answer}
 use Rattle.seat.specs.declared.calls.Answer.the-variants.{Done, NoTicket, AlreadyOpen, NoOpeningLeft, BadNumber, JournalFull, NothingToTakeBack}
-use Rattle.seat.specs.declared.calls.Limit.{Limit}
-use Rattle.seat.specs.declared.calls.Limit.the-variants as limit
-use Rattle.seat.specs.declared.calls.Wish.{Wish}
 use Rattle.seat.specs.Fit.{closedSeat, openSeat}
 
 -- document 01's numbers
@@ -129,17 +126,6 @@ accountFound owner number = cond (accountNamed owner number) (Of (accountNumber 
 abbrev pub placeFits : Found → Bool
 placeFits (At place p) = ltb place places
 placeFits Missing = true
-
--- settings as they are stored: a block as 0 or 1; LPO as 0 for none and n + 1 for n. One that is too high stays too high
-abbrev pub blockNumber : Bool → ℕ
-blockNumber on = cond on 1 0
-
-unfoldable pub limitNumber : Limit → ℕ
-limitNumber limit.None = 0
-limitNumber (limit.Of n) = cond (leb n sumMost) (n + 1) (sumMost + 2)
-
-unfoldable pub settingsOf : Wish → Settings
-settingsOf w = record { out = blockNumber (w .out); into = blockNumber (w .into); ltk = w .ltk; lpo = limitNumber (w .lpo) }
 
 -- 6, setting: the account or a limit is bad
 abbrev pub settingBad : Found → ℕ → Settings → Bool

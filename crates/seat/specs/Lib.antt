@@ -1,2 +1,3 @@
+pub mod Settings
 pub mod Fit
 pub mod Calls

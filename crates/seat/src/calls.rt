@@ -31,7 +31,7 @@ ghost use Rattle.directory.specs.Directory.{recordsMost};
 ghost use Rattle.directory.specs.Gathering.{recordsIn};
 ghost use Rattle.layout.specs.Seat.{seatLong};
 ghost use Rattle.seat.specs.Fit.{seatFits};
-ghost use Rattle.seat.specs.Calls.{noTicket, pairGood, sumsGood, openAnswer, openAfter, closeAnswer, closeAfter, accountNamed, accountNumber, accountFound, placeFits, blockNumber, limitNumber, settingsOf, setStep, setAnswer, setAfter, backAnswer, backAfter, noAccount, readAnswer, readValue};
+ghost use Rattle.seat.specs.Calls.{noTicket, pairGood, sumsGood, openAnswer, openAfter, closeAnswer, closeAfter, accountNamed, accountNumber, accountFound, placeFits, setStep, setAnswer, setAfter, backAnswer, backAfter, noAccount, readAnswer, readValue};
 
 // How a call of a seat ends.
 pub enum Answer {
@@ -300,52 +300,5 @@ pub fn read_account(s: &[u64], opening: u64, owner: Found, number: u64) -> Readi
     Reading {
         answer: Answer::Done,
         account: account(s, i),
-    }
-}
-
-// An account's LPO: none, or a limit in kopecks, which may be 0.
-pub enum Limit {
-    None,
-    Of(u64),
-}
-
-// What a set call gives an account: all four settings at once.
-pub struct Wish {
-    pub out: bool,
-    pub into: bool,
-    pub ltk: u64,
-    pub lpo: Limit,
-}
-
-// A block as it is stored.
-fn block_number(on: bool) -> u64
-    ensures { λ r. ⌜ r ≡ blockNumber on ⌝ }
-{
-    if on {
-        return 1;
-    }
-    0
-}
-
-// A limit as it is stored: 0 for none, n + 1 for n. One that is too high stays too high.
-fn limit_number(limit: Limit) -> u64
-    ensures { λ r. ⌜ r ≡ limitNumber limit ⌝ }
-{
-    match limit {
-        Limit::None => 0,
-        Limit::Of(n) => { if n <= SUM_MOST { n + 1 } else { SUM_MOST + 2 } }
-    }
-}
-
-// What a set call gives, as it is stored.
-pub fn settings_of(wish: Wish) -> Settings
-    ensures { λ r. ⌜ r ≡ settingsOf wish ⌝ }
-{
-    let lpo = wish.lpo;
-    Settings {
-        out: block_number(wish.out),
-        into: block_number(wish.into),
-        ltk: wish.ltk,
-        lpo: limit_number(lpo),
     }
 }

@@ -4,11 +4,10 @@
 
 mod calls;
 mod fit;
+mod settings;
 
 pub use calls::Answer;
-pub use calls::Limit;
 pub use calls::Reading;
-pub use calls::Wish;
 pub use calls::account_found;
 pub use calls::clear;
 pub use calls::close_seat;
@@ -16,7 +15,9 @@ pub use calls::no_ticket;
 pub use calls::open_seat;
 pub use calls::read_account;
 pub use calls::set_account;
-pub use calls::settings_of;
 pub use calls::take_back;
 pub use fit::room_fits;
 pub use fit::seat_fits;
+pub use settings::Limit;
+pub use settings::Wish;
+pub use settings::settings_of;

@@ -10,7 +10,7 @@ use Rattle.table.specs.declared.Kind.the-variants.{Pacs008, Pacs028, Pacs002}
 use Rattle.slip.specs.declared.Status.the-variants.{Pdng, Accc, Rjct, Waits}
 use Rattle.directory.specs.declared.Participant.{Participant}
 use Rattle.directory.specs.declared.Kind.the-variants.{Owner}
-use Rattle.seat.specs.declared.calls.Limit.the-variants.{None}
+use Rattle.seat.specs.declared.settings.Limit.the-variants.{None}
 use Rattle.strike.specs.Strike.{events}
 use Rattle.demands.specs.Calls.{set, takeBack, read, Call, under, callRoom, newRoom}
 use Rattle.demands.specs.Seats.{Answer, centre}

@@ -45,9 +45,9 @@ use Rattle.directory.specs.declared.Gathered.{Gathered}
 use Rattle.directory.specs.Gathering.{directoryIn}
 use Rattle.directory.proofs.Gathered as Gathered′
 use Rattle.directory.proofs.Gathered.Laws as gathered-laws
-use Rattle.seat.specs.declared.calls.Wish.{Wish}
-use Rattle.seat.proofs.calls.Wish as Wish′
-use Rattle.seat.proofs.calls.Wish.Laws as wish-laws
+use Rattle.seat.specs.declared.settings.Wish.{Wish}
+use Rattle.seat.proofs.settings.Wish as Wish′
+use Rattle.seat.proofs.settings.Wish.Laws as wish-laws
 use Rattle.centre.specs.declared.Answer.{Answer}
 use Rattle.centre.specs.declared.Ticket.{Ticket}
 use Rattle.centre.specs.Answers.{told}

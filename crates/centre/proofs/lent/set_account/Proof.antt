@@ -57,9 +57,9 @@ use Rattle.directory.proofs.fits.Symbol as fits-def
 use Rattle.directory.proofs.fits.Symbol.{name as #directory·fits}
 use Rattle.directory.proofs.fits.Met as fits-thm
 use Rattle.seat.specs.Calls.{placeFits}
-use Rattle.seat.specs.declared.calls.Wish.{Wish}
-use Rattle.seat.proofs.calls.Wish as Wish′
-use Rattle.seat.proofs.calls.Wish.Laws as wish-laws
+use Rattle.seat.specs.declared.settings.Wish.{Wish}
+use Rattle.seat.proofs.settings.Wish as Wish′
+use Rattle.seat.proofs.settings.Wish.Laws as wish-laws
 use Rattle.centre.specs.declared.Answer.{Answer}
 use Rattle.centre.specs.declared.Ticket.{Ticket}
 use Rattle.centre.specs.Answers.{told}

@@ -1,7 +1,7 @@
 -- Each setting is stored by itself.
-use Rattle.seat.specs.Calls.{settingsOf}
-use Rattle.seat.proofs.calls.settings_of.Statement.{statement}
-use Rattle.seat.proofs.calls.settings_of.Tie as tie
+use Rattle.seat.specs.Settings.{settingsOf}
+use Rattle.seat.proofs.settings.settings_of.Statement.{statement}
+use Rattle.seat.proofs.settings.settings_of.Tie as tie
 
 block-number-requires : tie.Need-block-number-requires
 block-number-requires c κs = tt

@@ -1,9 +1,9 @@
 -- None is 0, a limit one more than itself, one that is too high as high as it can be told.
 use borrow.Author.Tests.{le-leb, lt-leb}
-use Rattle.seat.specs.Calls.{limitNumber}
+use Rattle.seat.specs.Settings.{limitNumber}
 use borrow.Author.Needs.{needs}
-use Rattle.seat.proofs.calls.limit_number.Statement.{statement}
-use Rattle.seat.proofs.calls.limit_number.Tie as tie
+use Rattle.seat.proofs.settings.limit_number.Statement.{statement}
+use Rattle.seat.proofs.settings.limit_number.Tie as tie
 
 enum-told : tie.Need-enum-told
 enum-told c = search needs
