@@ -72,7 +72,8 @@ uint64_t damvurit_lay_out(uint64_t *room, size_t n);
 
 /*
  * Opens a seat, 0 to 11. The sums, in kopecks, come record by record, account 1 then account 2, so that k is twice the records; 0 to 10^15 for an
- * owner, 0 for others. Answers 0 with the opening number, 1 to 65,535, or 1 to 6. Seat and opening number are the ticket for all other calls.
+ * owner, 0 for others. An account opens with an LPO equal to its sum, or none where that is 0; LTK is 0 and nothing is blocked. Answers 0 with the
+ * opening number, 1 to 65,535, or 1 to 6. Seat and opening number are the ticket for all other calls.
  */
 uint64_t damvurit_open(uint64_t *room, size_t n, const uint64_t *dir, size_t d, uint64_t seat, const uint64_t *sums, size_t k);
 

@@ -1,5 +1,5 @@
-"""The practice centre worked out a second time from document 01 and requests 8 and 9 of document 02: the directory, a room of twelve seats,
-the calls with their refusals and the 37 checks. Shapes, sheets and fields are those of `second.py` and `messages.py`, seats those of
+"""The practice centre worked out a second time from document 01 and requests 2, 8 and 9 of document 02: the directory, a room of twelve
+seats, the calls with their refusals and the 37 checks. Shapes, sheets and fields are those of `second.py` and `messages.py`, seats those of
 `journal.py`, slips those of `slips.py`; nothing is taken from the Rattle code.
 
 Fitness is not worked out: a room counts as unfit from a poke on, until that place has its number again. Two things may be poked to
@@ -8,7 +8,8 @@ to that part of another identifier as long."""
 import datetime
 from collections import namedtuple
 
-from journal import ID_FROM, ID_LONG, NO_MOVEMENT, ROOM_LONG, SEAT_LONG, SET, STEP_LONG, STEPS_FROM, Seat, Step, renamed, set_step
+from journal import (ID_FROM, ID_LONG, LPO_AT, NO_MOVEMENT, ROOM_LONG, SEAT_LONG, SET, STEP_LONG, STEPS_FROM, Seat, Step, limit_in, renamed,
+                     set_step, stored_limit)
 from messages import KINDS, received
 from second import kopecks_in, name_as, read, real_date
 from slips import (ACCC, CAMT_050, KIND_NUMBERS, OPENINGS, ORDERS, PACS_002, PACS_008, PACS_028, PDNG, RJCT, SEATS, STEPS, WAITS, WRITTEN,
@@ -148,8 +149,7 @@ class Question:
 
     def limit(self):
         """The debtor account's LPO, or None."""
-        stored = self.has(self.debit, 6)
-        return stored - 1 if stored else None
+        return limit_in(self.has(self.debit, LPO_AT))
 
 
 FAILS = {
@@ -258,10 +258,8 @@ class Centre:
             (5, lambda: self.seats[seat].opening == OPENINGS), (6, lambda: self.sums_bad(sums)))
         if number:
             return number, 0, 0
-        at = self.seats[seat]
-        at.opening, at.is_open = at.opening + 1, 1
-        at.accounts[: len(sums)] = [[s, s, 0, 0, 0, 0, 0] for s in sums]
-        return 0, 0, at.opening
+        self.seats[seat].open(sums)
+        return 0, 0, self.seats[seat].opening
 
     def close(self, seat, opening):
         number = refusal(self.room_unfit(), self.no_ticket(seat, opening))
@@ -275,7 +273,7 @@ class Centre:
             self.room_unfit(), self.directory_unfit(), self.no_ticket(seat, opening), self.no_account(owner, which),
             (6, lambda: ltk > MOST or (lpo or 0) > MOST), self.full(seat))
         if not number:
-            account, given = self.account(owner, which), (out, into, ltk, 0 if lpo is None else lpo + 1)
+            account, given = self.account(owner, which), (out, into, ltk, stored_limit(lpo))
             self.seats[seat].record(set_step(account, tuple(self.seats[seat].accounts[account][3:]), given))
         return number, 0
 

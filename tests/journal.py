@@ -1,5 +1,6 @@
-"""A room's seats as they are stored, worked out a second time from document 01, request 9 of document 02 and docs/LAYOUT.md: how long each
-part is, what a journal keeps of a call, and how a transfer stands now. Nothing is taken from the Rattle code."""
+"""A room's seats as they are stored, worked out a second time from document 01, requests 2 and 9 of document 02 and docs/LAYOUT.md: how
+long each part is, how an account opens, what a journal keeps of a call, and how a transfer stands now. Nothing is taken from the Rattle
+code."""
 import copy
 
 from second import stored_as, time_in
@@ -15,11 +16,29 @@ assert (SEAT_LONG, ROOM_LONG) == (971, 11652)
 # Where a step has its MsgId, seven bytes to a number.
 ID_FROM, ID_LONG, ID_BYTES = 4, 5, 7
 
+# Where an account has its LPO, and where a set has the LPO before it.
+LPO_AT, OLD_LPO_AT = 6, 24
+
 # The kind of a step that sets an account; the other steps have the kinds of their messages.
 SET = 5
 
 # A movement is the account that is debited, the one that is credited, and the amount.
 NO_MOVEMENT = 0, 0, 0
+
+
+def stored_limit(limit):
+    """LPO as it is stored, of a number or None: a limit of 0 is a limit, so it is one more than the number."""
+    return 0 if limit is None else limit + 1
+
+
+def limit_in(stored):
+    """LPO as a number, or None."""
+    return stored - 1 if stored else None
+
+
+def opened_account(opening_sum):
+    """Opening sum, balance, turnover, blocks outgoing and incoming, LTK, LPO: the limit is the sum, and there is none where that is 0."""
+    return [opening_sum, opening_sum, 0, 0, 0, 0, stored_limit(opening_sum or None)]
 
 
 def renamed(identifier, part, number):
@@ -60,9 +79,13 @@ class Seat:
         self.clear()
 
     def clear(self):
-        """An account is opening sum, balance, turnover, blocks outgoing and incoming, LTK, LPO. `before` has the accounts as they were
-        before each step."""
+        """All accounts are zeros. `before` has the accounts as they were before each step."""
         self.is_open, self.accounts, self.steps, self.before = 0, [[0] * ACCOUNT_LONG for _ in range(ACCOUNTS)], [], []
+
+    def open(self, sums):
+        """Accounts past the last sum stay zeros; those of records that are no owners do, since their sums are 0."""
+        self.opening, self.is_open = self.opening + 1, 1
+        self.accounts[: len(sums)] = map(opened_account, sums)
 
     def record(self, step):
         """Money moves where a transfer is done or settled; what waits moves none."""

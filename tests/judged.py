@@ -1,7 +1,7 @@
 """The scenes of messages that are judged: the cases of document 01, each check as the first that fails, and messages carried out."""
 from journal import ROOM_LONG, SEAT_LONG
-from script import (BAD_IBAN, CASES, REFUSES, SCHOOL, back, call, centre, id_of, listed, note, payment, play, put, reply, request, settle,
-                    show, slip_is, start, submit, transfer)
+from script import (BAD_IBAN, CASES, NONE, REFUSES, SCHOOL, back, call, centre, id_of, listed, note, payment, play, put, reply, request,
+                    settle, show, slip_is, start, submit, transfer)
 from slips import OPENINGS, SEATS, STEPS, WRITTEN
 
 ONE, TWO, BRANCH = 300001, 300002, 300012
@@ -124,7 +124,7 @@ def full_journal():
     late = submit("9 0", 1, ONE, transfer(ONE, "0.01"))
     put(1, ONE, 2, wants=9)
     submit("11 0", 1, ONE, late, long=WRITTEN.long - 1)
-    put(1, ONE, 3, wants=6)
+    put(1, ONE, 3, lpo=NONE, wants=6)
     put(1, ONE, 2, ltk=10**15 + 1, wants=6)
     submit("6 0", 1, ONE, late, date=20240230)
     submit("9 0", 1, ONE, "<A></A>")
@@ -190,9 +190,9 @@ def payments_done():
     note("pacs.008 settled, in the last seat at its last opening: to a bank, from a direct branch (its head pays), to one (paid).")
     last = SEATS - 1
     play(f"poke {last * SEAT_LONG} {OPENINGS - 1}")
-    start(last, 50000, 10000, 70000, 20000)
+    start(last, 50000, 10000, 70000)
     settle("ACCC 0", last, ONE, payment(ONE, amount="30.00", previous=300009))
-    settle("ACCC 0", last, BRANCH, payment(BRANCH, ONE, amount="220.00"))
+    settle("ACCC 0", last, BRANCH, payment(BRANCH, ONE, amount="22.00"))
     settle("ACCC 0", last, ONE, payment(ONE, BRANCH, amount="5.55"), long=8)
     note("To itself, from a bank to its direct branch and back, from the branch to itself: balances stay, turnover grows.")
     settle("ACCC 0", last, ONE, payment(ONE, ONE, amount="7.00"))
@@ -308,7 +308,7 @@ def easily_wrong():
     note("LPO none after LPO 0; a limit below what was turned over; LTK above the balance; limits of 10^15; limits just met.")
     put(6, ONE, 2, lpo=0)
     submit("RJCT 24", 6, ONE, transfer(ONE, way="21"))
-    put(6, ONE, 2)
+    put(6, ONE, 2, lpo=NONE)
     submit("ACCC 0", 6, ONE, transfer(ONE, "60.00", way="21"))
     put(6, ONE, 2, lpo=5000)
     settle("RJCT 23", 6, ONE, payment(ONE, amount="0.01"))

@@ -3,6 +3,11 @@
 Run it from the project's root."""
 
 
+def opened_account(opening_sum):
+    """LPO, stored last as one more than the limit, is the opening sum; where that is 0 there is none, stored as 0."""
+    return [opening_sum, opening_sum, 0, 0, 0, 0, opening_sum + 1 if opening_sum else 0]
+
+
 class Seat:
     def __init__(self):
         self.opening, self.is_open, self.steps, self.accounts = 0, 0, [], [[0] * 7 for _ in range(32)]
@@ -17,7 +22,7 @@ class Seat:
         if len(sums) != 4 or max(sums) > 10**15:
             return 6
         self.opening, self.is_open, self.steps = self.opening + 1, 1, []
-        self.accounts = [[n, n, 0, 0, 0, 0, 0] for n in sums] + [[0] * 7 for _ in range(28)]
+        self.accounts = [opened_account(opening_sum) for opening_sum in sums] + [[0] * 7 for _ in range(28)]
         return 0
 
     def ticket(self, opening):

@@ -1,7 +1,7 @@
 """The scenes of calls that are refused, each with what stands beside the fault."""
-from journal import ACCOUNT_LONG, HEAD_LONG, ROOM_LONG, SEAT_LONG, STEP_LONG, STEPS_FROM
+from journal import ACCOUNT_LONG, HEAD_LONG, LPO_AT, ROOM_LONG, SEAT_LONG, STEP_LONG, STEPS_FROM
 from messages import FITS, KINDS, document, is_money
-from script import (DECLINES, REFUSES, back, call, centre, listed, note, payment, play, put, reply, request, settle, show, start,
+from script import (DECLINES, NONE, REFUSES, back, call, centre, listed, note, payment, play, put, reply, request, settle, show, start,
                     submit, sums, ticket, transfer)
 from slips import FIVE_BYTES, HIGH_SEATS, NO_SEATS, SEATS, SIX_BYTES, STEPS, WRITTEN, image
 
@@ -113,7 +113,7 @@ def numbers():
         call(6, "read", seat, opening, owner, number)
     for owner, number in [(300009, 1), (300011, 2), (ONE, 3)]:
         put(seat, owner, number, 1, 1, 1, 1, wants=6)
-    for ltk, lpo in [(10**15 + 1, "-"), (0, 10**15 + 1), (0, 2**64 - 1)]:
+    for ltk, lpo in [(10**15 + 1, NONE), (0, 10**15 + 1), (0, 2**64 - 1)]:
         put(seat, ONE, 1, 0, 0, ltk, lpo, wants=6)
     submit("6 0", seat, 1000000, sheet)
     call(10, "back", seat, opening)
@@ -167,7 +167,7 @@ def rooms():
     sheet = transfer(ONE)
     spoilt(account_place(0, 1), 30001, ("open", SEATS, 1))
     spoilt(account_place(0, 2), 0, ("close", SEATS, 1))
-    spoilt(account_place(0, 6), 0, ("set", *ticket(0), ONE, 3, 0, 0, 0, "-"))
+    spoilt(account_place(0, LPO_AT), 0, ("set", *ticket(0), ONE, 3, 0, 0, 0, "-"))
     spoilt(account_place(31, 0), 1, ("submit", *ticket(0), ONE, 20240301, WRITTEN.long, sheet))
     spoilt(step_place(2, 19), 19999, ("submit", *ticket(0), 1000000, 0, 4, "<A></A>"))
     spoilt(step_place(3, 2), 25, ("back", 0, 65536))
@@ -255,7 +255,7 @@ def directories():
     call(0, "open", 1, 100, 200, *[0] * 28, 300, 400)
     submit("ACCC 0", 1, 999998, transfer(999998, "3.00"))
     submit("ACCC 0", 1, 0, transfer(0, "2.00", way="21"))
-    settle("ACCC 0", 1, 999998, payment(999998, 0, amount="7.00"))
+    settle("ACCC 0", 1, 999998, payment(999998, 0, amount="4.00"))
     play("dump 1")
     play("record 999999 1 0 0")
     call(2, "open", 2, *[0] * 34)

@@ -1,6 +1,7 @@
 """The script of the drill while it is made: a line is played with the model of `centre.py` as it is written, and what the program must
 print of it is kept beside it. Below that, messages and calls as the scenes write them."""
 from centre import FIELDS, Centre, Record
+from journal import LPO_AT, limit_in
 from messages import KINDS, document, is_money
 from slips import WRITTEN, read_slip, write_slip
 
@@ -194,8 +195,19 @@ def rows(wants, seat, sender, sheet, date=20240301):
     return sheet
 
 
-def put(seat, owner, number, out=0, into=0, ltk=0, lpo="-", wants=0):
-    """Sets an account; what is not named is no block and no limit."""
+# LPO none, as a line writes it.
+NONE = "-"
+
+
+def limit_now(seat, owner, number):
+    """An account's LPO as a line writes it."""
+    limit = limit_in(centre.seats[seat].accounts[centre.account(owner, number)][LPO_AT])
+    return NONE if limit is None else limit
+
+
+def put(seat, owner, number, out=0, into=0, ltk=0, lpo=None, wants=0):
+    """Sets an account; what is not named is no block and LTK 0, and LPO as it stands, since accounts open with one."""
+    lpo = limit_now(seat, owner, number) if lpo is None else lpo
     call(wants, "set", *ticket(seat), owner, number, out, into, ltk, lpo)
 
 

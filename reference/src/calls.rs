@@ -1,5 +1,5 @@
-//! The nine calls and their refusals (document 01, "Calls and refusals", with requests 8 and 9 of document 02). A refused
-//! call changes nothing that was lent.
+//! The nine calls and their refusals (document 01, "Calls and refusals", with requests 2, 8 and 9 of document 02). A
+//! refused call changes nothing that was lent.
 
 use crate::checks::{self, Accounts, Case, CHECK_REFUSED_MOST};
 use crate::directory::{self, Record};
@@ -145,8 +145,7 @@ pub fn open(room: &mut [u64], directory: &[Record], seat: u64, sums: &[u64]) -> 
     seat[room::OPENING] += 1;
     seat[room::OPENED] = 1;
     for (account, sum) in room::accounts_mut(seat).chunks_exact_mut(room::ACCOUNT_LONG).zip(sums) {
-        account[room::OPENING_SUM] = *sum;
-        account[room::BALANCE] = *sum;
+        room::open_account(account, *sum);
     }
     Ok(seat[room::OPENING])
 }

@@ -8,6 +8,7 @@ mod damage;
 mod dice;
 mod drafts;
 mod journals;
+mod limits;
 mod money;
 mod pokes;
 mod posts;
@@ -32,9 +33,10 @@ const EDGES: [u64; 18] =
     [0, 1, 2, 3, 11, 12, 24, 25, 31, 32, 65_535, 65_536, 999_999, 1_000_000, SUM_MOST, SUM_MOST + 1, 1 << 63, u64::MAX];
 
 /// What a lesson does next, by weight.
-const ACTIONS: [fn(&mut Maker); 18] = [
+const ACTIONS: [fn(&mut Maker); 19] = [
     Maker::follow_transfer,
     Maker::send_pairs,
+    Maker::send_on,
     Maker::send_valid,
     Maker::send_spoiled,
     Maker::send_faulty,
@@ -54,13 +56,13 @@ const ACTIONS: [fn(&mut Maker); 18] = [
 ];
 
 /// The weights of a theme: a bit of all, one full journal, sheets, rooms and tickets, money, transfers and their answers.
-const THEMES: [[u64; 18]; 6] = [
-    [4, 0, 18, 28, 7, 7, 5, 3, 6, 6, 5, 5, 6, 7, 11, 4, 3, 4],
-    [4, 2, 24, 44, 2, 2, 6, 4, 4, 2, 4, 0, 3, 3, 8, 2, 0, 3],
-    [1, 0, 9, 9, 34, 37, 3, 2, 2, 2, 1, 2, 1, 5, 1, 1, 1, 2],
-    [3, 0, 12, 10, 2, 2, 3, 5, 6, 5, 5, 9, 13, 14, 36, 9, 5, 3],
-    [6, 1, 16, 34, 1, 1, 5, 1, 12, 10, 6, 2, 1, 2, 8, 1, 0, 3],
-    [12, 1, 10, 28, 4, 1, 4, 1, 3, 6, 3, 1, 1, 4, 22, 1, 3, 6],
+const THEMES: [[u64; 19]; 6] = [
+    [5, 0, 1, 18, 28, 7, 7, 5, 3, 6, 6, 5, 5, 6, 7, 13, 4, 3, 4],
+    [5, 2, 1, 24, 44, 2, 2, 6, 4, 4, 2, 4, 0, 3, 3, 10, 2, 0, 3],
+    [1, 0, 0, 9, 9, 34, 37, 3, 2, 2, 2, 1, 2, 1, 5, 1, 1, 1, 2],
+    [3, 0, 1, 12, 10, 2, 2, 3, 5, 6, 5, 5, 9, 13, 14, 44, 9, 5, 3],
+    [7, 1, 5, 16, 34, 1, 1, 5, 1, 12, 10, 6, 2, 1, 2, 10, 1, 0, 3],
+    [13, 1, 2, 10, 28, 4, 1, 4, 1, 3, 6, 3, 1, 1, 4, 27, 1, 3, 6],
 ];
 const THEME_WEIGHTS: [u64; 6] = [28, 14, 16, 15, 12, 15];
 const FULL_JOURNAL: usize = 1;
@@ -196,8 +198,7 @@ impl Maker {
         }
         if !self.touched.is_empty() && self.dice.chance(25) {
             let Touched { seat, owner, number } = self.touched.remove(0);
-            let opening = self.seat(seat)[OPENING];
-            self.line(&format!("set {} {} {} {} 0 0 0 -", seat, opening, owner, number));
+            self.free_account(seat, owner, number);
         }
     }
 }

@@ -1,5 +1,5 @@
-//! The second engine: document 01, with requests 8 and 9 of document 02, read a second time, as functions on lent slices.
-//! The program of `main.rs` plays with it.
+//! The second engine: document 01, with requests 2, 8 and 9 of document 02, read a second time, as functions on lent
+//! slices. The program of `main.rs` plays with it.
 
 pub mod calls;
 pub mod checks;

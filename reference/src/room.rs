@@ -1,4 +1,4 @@
-//! The room (docs/LAYOUT.md): 12 seats in one slice of numbers, and when such a slice is fit.
+//! The room (docs/LAYOUT.md): 12 seats in one slice of numbers, how an account opens, and when such a slice is fit.
 
 use crate::checks::{self, MONEY_CHECKS};
 use crate::shapes::{self, AMOUNT_MOST, CODE_MOST};
@@ -26,7 +26,7 @@ pub const OPENING: usize = 0;
 pub const OPENED: usize = 1;
 pub const STEP_COUNT: usize = 2;
 
-// an account; LPO is 0 for none and limit + 1 else
+// an account; LPO is kept as limit + 1, none as 0
 pub const OPENING_SUM: usize = 0;
 pub const BALANCE: usize = 1;
 pub const TURNOVER: usize = 2;
@@ -35,6 +35,7 @@ pub const INTO: usize = 4;
 pub const LTK: usize = 5;
 pub const LPO: usize = 6;
 pub const SETTINGS: std::ops::Range<usize> = 3..7;
+pub const NO_LIMIT: u64 = 0;
 
 // a step
 pub const STEP_KIND: usize = 0;
@@ -89,6 +90,23 @@ pub fn accounts_mut(seat: &mut [u64]) -> &mut [u64] {
 
 pub fn steps(seat: &[u64]) -> usize {
     seat[STEP_COUNT] as usize
+}
+
+/// LPO, as it is kept, of an account that opens with a sum (document 02, request 2): a limit of as much, or none where the
+/// sum is 0. The limit 0 would let nothing out, whatever comes in.
+pub fn opening_limit(sum: u64) -> u64 {
+    if sum == 0 {
+        NO_LIMIT
+    } else {
+        sum + 1
+    }
+}
+
+/// Opens an account of zeros with a sum: by the call, and where a seat is worked forward.
+pub fn open_account(account: &mut [u64], sum: u64) {
+    account[OPENING_SUM] = sum;
+    account[BALANCE] = sum;
+    account[LPO] = opening_limit(sum);
 }
 
 /// The steps of a fit seat's journal, the first one first.
@@ -210,7 +228,7 @@ fn is_fit_seat(seat: &[u64]) -> bool {
         }
 }
 
-/// An open seat's journal worked forward from its opening sums, no balance below zero behind any step.
+/// An open seat's journal worked forward from its opening sums and their limits, no balance below zero behind any step.
 fn comes_out(seat: &[u64]) -> bool {
     let mut accounts = [0; ACCOUNTS * ACCOUNT_LONG];
     let stored = &seat[ACCOUNTS_FROM..JOURNAL_FROM];
@@ -218,8 +236,7 @@ fn comes_out(seat: &[u64]) -> bool {
         if account[OPENING_SUM] > SUM_MOST {
             return false;
         }
-        worked[OPENING_SUM] = account[OPENING_SUM];
-        worked[BALANCE] = account[OPENING_SUM];
+        open_account(worked, account[OPENING_SUM]);
     }
     let unused = JOURNAL_FROM + steps(seat) * STEP_LONG;
     numbered(seat).all(|(number, step)| {

@@ -1,6 +1,6 @@
 /*
- * Calls the static library from C. Plays the eleven cases of document 01, the two stages of a transfer, and every call in seats 8 to 11; then
- * brings about each refusal, 1 to 12, and what stands just beside it.
+ * Calls the static library from C. Plays the eleven cases of document 01, the two stages of a transfer, what an account opens with, and every call
+ * in seats 8 to 11; then brings about each refusal, 1 to 12, and what stands just beside it.
  * A line for each check; the last line counts them, and the exit status is 0 where none is wrong.
  * What is wanted is written here by hand, slips too (`slip_bytes` packs them anew): nothing of the library is used to judge the library.
  */
@@ -15,10 +15,14 @@
 #define SEAT_NUMBERS (DAMVURIT_ROOM_SIZE / DAMVURIT_SEATS)
 #define EIGHT_SEATS_NUMBERS (8 * SEAT_NUMBERS)
 #define STEPS 24
+#define ACCOUNTS_FROM 3
+#define ACCOUNT_NUMBERS 7
+#define LPO_AT 6
 #define STEPS_FROM 227
 #define STEP_NUMBERS 31
 #define RECEIVER_AT 29
 #define ANSWERS_AT 30
+#define OLD_LPO_AT 24
 #define UNTOUCHED_BYTE 0xAA
 #define UNTOUCHED_NUMBER UINT64_C(0xAAAAAAAAAAAAAAAA)
 #define HIGHEST UINT64_C(1000000000000000)
@@ -64,8 +68,11 @@ static const uint64_t directory[] = {
     300012, 1, 1, 300002,
 };
 
-/* 500.00 and 100.00 for 300001, others empty */
-static const uint64_t sums[] = {50000, 10000, 0, 0, 0, 0, 0, 0};
+/* 500.00 and 100.00 for 300001, others empty. An account opens with its sum as its LPO, or with none where that is 0 */
+#define SUM_1 50000
+#define SUM_2 10000
+
+static const uint64_t sums[] = {SUM_1, SUM_2, 0, 0, 0, 0, 0, 0};
 
 static uint64_t opened(void) { return damvurit_open(LENT(room), LENT(directory), seat, LENT(sums)); }
 
@@ -102,14 +109,17 @@ static void write_sheet(const char *form, ...) {
     "<" name "><FinInstnId><ClrSysMmbId><ClrSysId><Prtry>SEP</Prtry></ClrSysId><MmbId>" code "</MmbId></ClrSysMmbId></FinInstnId></" name ">"
 #define UETR "6f1a2b3c-4d5e-4f60-8a9b-0c1d2e3f405"
 
-/* camt.050: an amount from the sender's account 1 to its account 2; the digit tells messages apart */
-static void camt050(unsigned sender, char digit, const char *created, const char *amount) {
+/* camt.050: an amount from one account of the sender to the other; the digit tells messages apart */
+static void liquidity(unsigned debit, unsigned credit, unsigned sender, char digit, const char *created, const char *amount) {
     write_sheet("<Document><LqdyCdtTrf><MsgHdr><MsgId>%u202403010000000%c</MsgId><CreDtTm>%s</CreDtTm></MsgHdr><LqdyCdtTrf><LqdyTrfId>"
                 "<UETR>" UETR "%c</UETR><TrfdAmt Ccy=\"UAH\">%s</TrfdAmt>"
-                "<DbtrAcct><Id><Othr><Id>1%uUAH</Id></Othr></Id></DbtrAcct><CdtrAcct><Id><Othr><Id>2%uUAH</Id></Othr></Id></CdtrAcct>"
+                "<DbtrAcct><Id><Othr><Id>%u%uUAH</Id></Othr></Id></DbtrAcct><CdtrAcct><Id><Othr><Id>%u%uUAH</Id></Othr></Id></CdtrAcct>"
                 "</LqdyTrfId></LqdyCdtTrf></LqdyCdtTrf></Document>",
-                sender, digit, created, digit, amount, sender, sender);
+                sender, digit, created, digit, amount, debit, sender, credit, sender);
 }
+
+/* from account 1 to account 2 */
+static void camt050(unsigned sender, char digit, const char *created, const char *amount) { liquidity(1, 2, sender, digit, created, amount); }
 
 /* pacs.008: 50.00 from a customer of 300001 to the IBAN of a customer of 300002 */
 static void pacs008(char digit, const char *iban) {
@@ -236,7 +246,7 @@ static void holds(uint64_t account, uint64_t opening_sum, uint64_t balance, uint
 
 /* Accounts 2 of both owners, by their balances and what went out of the first. */
 static void balances(uint64_t first, uint64_t turnover, uint64_t second, const char *what) {
-    holds(2, 10000, first, turnover, 0, NO_LPO, what);
+    holds(2, SUM_2, first, turnover, 0, LPO(SUM_2), what);
     holds_of(300002, 2, (const uint64_t[7]){0, second, 0, 0, 0, 0, NO_LPO}, "       account 2 of 300002");
 }
 
@@ -269,19 +279,19 @@ static uint64_t closed(void) {
 static void case_1(void) {
     begin();
     moves('1', "500.00", ACCC, 0, 1, "case 1: 500.00 from account 1 to account 2");
-    holds(1, 50000, 0, 50000, 0, NO_LPO, "case 1: 0.00 are left");
-    holds(2, 10000, 60000, 0, 0, NO_LPO, "case 1: there are 600.00");
+    holds(1, SUM_1, 0, 50000, 0, LPO(SUM_1), "case 1: 0.00 are left");
+    holds(2, SUM_2, 60000, 0, 0, LPO(SUM_2), "case 1: there are 600.00");
     begin();
-    moves('1', "500.01", RJCT, 22, 1, "case 1: 500.01 fails check 22");
-    holds(1, 50000, 50000, 0, 0, NO_LPO, "case 1: nothing moved");
+    moves('1', "500.01", RJCT, 22, 1, "case 1: 500.01 fails check 22, and not 23");
+    holds(1, SUM_1, SUM_1, 0, 0, LPO(SUM_1), "case 1: nothing moved");
 }
 
 static void case_2(void) {
     begin();
-    same(set_limits(10000, NO_LPO), 0, "case 2: LTK 100.00");
+    same(set_limits(10000, LPO(SUM_1)), 0, "case 2: LTK 100.00");
     moves('1', "400.00", ACCC, 0, 2, "case 2: 400.00 are done");
     begin();
-    same(set_limits(10000, NO_LPO), 0, "case 2: LTK 100.00 again");
+    same(set_limits(10000, LPO(SUM_1)), 0, "case 2: LTK 100.00 again");
     moves('1', "400.01", RJCT, 22, 2, "case 2: 400.01 fails check 22");
 }
 
@@ -290,11 +300,11 @@ static void case_3(void) {
     same(set_limits(0, LPO(40000)), 0, "case 3: LPO 400.00");
     moves('1', "400.00", ACCC, 0, 2, "case 3: 400.00 are done");
     moves('2', "0.01", RJCT, 23, 3, "case 3: 0.01 more fails check 23");
-    holds(1, 50000, 10000, 40000, 0, LPO(40000), "case 3: the account with its LPO");
+    holds(1, SUM_1, 10000, 40000, 0, LPO(40000), "case 3: the account with its LPO");
     begin();
     same(set_limits(0, LPO(0)), 0, "case 3: LPO 0");
     moves('1', "0.01", RJCT, 24, 2, "case 3: 0.01 fails check 24");
-    holds(1, 50000, 50000, 0, 0, LPO(0), "case 3: an LPO of 0 is no missing one");
+    holds(1, SUM_1, SUM_1, 0, 0, LPO(0), "case 3: an LPO of 0 is no missing one");
 }
 
 static void case_4(void) {
@@ -462,11 +472,11 @@ static void answered_by(void) {
 /* The money is looked at when the answer comes. */
 static void answered_late(void) {
     awaiting();
-    same(damvurit_set(LENT(room), LENT(directory), seat, opening, 300001, 2, 0, 0, 5001, NO_LPO), 0, "two stages: LTK 50.01 meanwhile");
+    same(damvurit_set(LENT(room), LENT(directory), seat, opening, 300001, 2, 0, 0, 5001, LPO(SUM_2)), 0, "two stages: LTK 50.01 meanwhile");
     pacs002(300002, '2', '1', "ACCP", "");
     taken(300002, PACS002, RJCT, 22, 3, "two stages: 50.00 fail check 22");
     same(taken_back(), 0, "two stages: the answer is taken back");
-    same(damvurit_set(LENT(room), LENT(directory), seat, opening, 300001, 2, 0, 0, 5000, NO_LPO), 0, "two stages: LTK 50.00");
+    same(damvurit_set(LENT(room), LENT(directory), seat, opening, 300001, 2, 0, 0, 5000, LPO(SUM_2)), 0, "two stages: LTK 50.00");
     taken(300002, PACS002, ACCC, 0, 4, "two stages: the same answer settles it");
 }
 
@@ -498,6 +508,41 @@ static void slip_images(void) {
     }
 }
 
+/* ---- What an account opens with. */
+
+/* 300001 sends a camt.050 from account 2 to account 1. */
+static void returns(char digit, const char *amount, uint64_t status, uint64_t check, uint64_t step, const char *what) {
+    liquidity(2, 1, 300001, digit, MORNING, amount);
+    taken(300001, CAMT050, status, check, step, what);
+}
+
+/* Account 2 opens with 100.00 and gets 400.00; its LPO does not grow with the money. */
+static void limited(void) {
+    static const uint64_t zeros[7];
+    begin();
+    holds(1, SUM_1, SUM_1, 0, 0, LPO(SUM_1), "opening: account 1 has its sum as its LPO");
+    holds(2, SUM_2, SUM_2, 0, 0, LPO(SUM_2), "opening: so has account 2");
+    holds_of(300002, 1, zeros, "opening: an account without a sum has none");
+    moves('1', "400.00", ACCC, 0, 1, "opening: 400.00 come in");
+    returns('2', "100.01", RJCT, 23, 2, "opening: 100.01 fail check 23");
+    returns('3', "100.00", ACCC, 0, 3, "opening: 100.00 are done");
+    same(damvurit_set(LENT(room), LENT(directory), seat, opening, 300001, 2, 0, 0, 0, NO_LPO), 0, "opening: LPO none");
+    returns('4', "0.01", ACCC, 0, 5, "opening: 0.01 more is done");
+    same(taken_back(), 0, "opening: that is taken back");
+    same(taken_back(), 0, "opening: and the set");
+    holds(2, SUM_2, 40000, SUM_2, 0, LPO(SUM_2), "opening: the LPO is back");
+    returns('4', "0.01", RJCT, 23, 4, "opening: 0.01 more fails check 23");
+}
+
+/* What is received by an account that opened with nothing can be sent on: none is not an LPO of 0. */
+static void unlimited(void) {
+    awaiting();
+    pacs002(300002, '2', '1', "ACCP", "");
+    taken(300002, PACS002, ACCC, 0, 2, "opening: 50.00 come in");
+    liquidity(2, 1, 300002, '3', MORNING, "50.00");
+    taken(300002, CAMT050, ACCC, 0, 3, "opening: 50.00 are sent on");
+}
+
 /* ---- Seats 8 to 11, which six bytes alone can name. */
 
 static uint64_t submitted_in(uint64_t at) {
@@ -508,7 +553,7 @@ static uint64_t submitted_in(uint64_t at) {
 
 /* Every call in a seat, from its opening to its closing. */
 static void plays_in(uint64_t at) {
-    static const uint64_t want[7] = {50000, 49900, 100, 0, 0, 0, NO_LPO};
+    static const uint64_t want[7] = {SUM_1, SUM_1 - 100, 100, 0, 0, 0, LPO(SUM_1)};
     char what[40];
     snprintf(what, sizeof what, "seat %" PRIu64 ": opened", at);
     same(damvurit_open(LENT(room), LENT(directory), at, LENT(sums)), with(0, opening), what);
@@ -526,7 +571,7 @@ static void plays_in(uint64_t at) {
 static void high_seats(void) {
     begin();
     for (uint64_t at = 8; at < DAMVURIT_SEATS; at++) plays_in(at);
-    holds(1, 50000, 50000, 0, 0, NO_LPO, "seat 3 stays as it is");
+    holds(1, SUM_1, SUM_1, 0, 0, LPO(SUM_1), "seat 3 stays as it is");
 }
 
 /* ---- The refusals. */
@@ -586,6 +631,32 @@ static void unfit_rows(void) {
     answer[ANSWERS_AT] = 2;
     refused(taken_back(), 1, "1: an answer that names itself");
     answer[ANSWERS_AT] = 1;
+    same(taken_back(), 0, "1: the room as it was is fit");
+}
+
+/* A room whose limits do not come out from its opening sums. */
+static void unfit_limits(void) {
+    uint64_t *in_seat = room + SEAT_NUMBERS * seat;
+    uint64_t *first = in_seat + ACCOUNTS_FROM + LPO_AT, *second = first + ACCOUNT_NUMBERS, *empty = second + ACCOUNT_NUMBERS;
+    uint64_t *old = in_seat + STEPS_FROM + OLD_LPO_AT;
+    begin();
+    *first = *second = NO_LPO;
+    keep_room();
+    not_read(read_with(LENT(directory), seat, opening, 300001, 1), 1, "1: neither account opened with an LPO");
+    refused(closed(), 1, "1: closing there");
+    *second = LPO(SUM_2);
+    not_read(read_with(LENT(directory), seat, opening, 300001, 1), 1, "1: account 1 alone opened without");
+    *first = LPO(SUM_1 + 1);
+    not_read(read_with(LENT(directory), seat, opening, 300001, 1), 1, "1: an LPO one kopeck above its opening sum");
+    *first = LPO(SUM_1);
+    *empty = LPO(0);
+    not_read(read_with(LENT(directory), seat, opening, 300001, 1), 1, "1: LPO 0 where the opening sum is 0");
+    *empty = NO_LPO;
+    same(set_limits(0, NO_LPO), 0, "1: the room as it was is fit");
+    checked(*old == LPO(SUM_1), "1: the set has the LPO that the account opened with");
+    *old = NO_LPO;
+    refused(taken_back(), 1, "1: a set that has none as the LPO before it");
+    *old = LPO(SUM_1);
     same(taken_back(), 0, "1: the room as it was is fit");
 }
 
@@ -678,10 +749,10 @@ static void refusal_6(void) {
     refused(set_limits(0, UINT64_MAX), 6, "6: the largest LPO");
     same(set_all(1, 0, HIGHEST, LPO(HIGHEST)), 0, "6: block outgoing and limits of 10^15 are not refused");
     same(read_with(LENT(directory), seat, opening, 300001, 1), 0, "6: the account then");
-    checked(out_is((const uint64_t[7]){50000, 50000, 0, 1, 0, HIGHEST, LPO(HIGHEST)}), "       its seven numbers");
+    checked(out_is((const uint64_t[7]){SUM_1, SUM_1, 0, 1, 0, HIGHEST, LPO(HIGHEST)}), "       its seven numbers");
     same(set_all(0, 1, 0, NO_LPO), 0, "6: block incoming and no limits are not refused");
     same(read_with(LENT(directory), seat, opening, 300001, 1), 0, "6: the account then");
-    checked(out_is((const uint64_t[7]){50000, 50000, 0, 0, 1, 0, NO_LPO}), "       its seven numbers");
+    checked(out_is((const uint64_t[7]){SUM_1, SUM_1, 0, 0, 1, 0, NO_LPO}), "       its seven numbers");
     keep_room();
     refused(damvurit_set(LENT(room), LENT(directory), seat, opening, 300001, 3, 0, 0, 0, 0), 6, "6: setting account 3");
     refused(damvurit_set(LENT(room), LENT(directory), seat, opening, 300012, 1, 0, 0, 0, 0), 6, "6: setting a branch's account");
@@ -843,11 +914,14 @@ int main(void) {
     answered_twice();
     answered_by();
     answered_late();
+    limited();
+    unlimited();
     slip_images();
     high_seats();
     eight_seats();
     refusal_1();
     unfit_rows();
+    unfit_limits();
     refusal_2();
     refusal_3();
     refusals_4_and_5();

@@ -7,13 +7,12 @@ use Prim.Native.Nat.{ℕ, zero, suc}
 use lib.ListN.{replicate}
 use Rattle.directory.specs.Directory.{foundFrom, found}
 use Rattle.layout.specs.Seat.{seatOf, withSeat}
-use Rattle.seat.specs.declared.settings.Limit.the-variants.{None}
 use Rattle.strike.specs.Strike.{events}
 use Rattle.centre.specs.Answers.{Told, done, refused, isDone, behind}
 use Rattle.centre.specs.Calls.{setIn, setTold, setAfter}
 use Rattle.demands.specs.Calls.{Call, under, takeBack, actTold, callTold, actRoom, callRoom, actSlip, callSlip, newRoom}
 use Rattle.demands.specs.Seats.{Answer, answerOf, centre}
-use Rattle.cases.specs.Cases.{directory, begin, ticket, moves, wish, sets, values, refusal, unslipped, accepted, Case, played, case11}
+use Rattle.cases.specs.Cases.{directory, begin, ticket, moves, wish, sets, asOpened, values, refusal, unslipped, accepted, Case, played, case11}
 use Rattle.cases.proofs.Opened.{opened}
 
 -- what calls answer from a room on
@@ -22,10 +21,10 @@ answersFrom room calls = map (λ (event : Call × Answer). event .1) (events (ce
 
 -- a set that changes nothing, and what it makes of a room
 abbrev idle : Call
-idle = sets 0 None
+idle = sets 0 asOpened
 
 made : List ℕ → List ℕ
-made room = withSeat room 3 (setIn 0 (wish 0 None) (seatOf room 3))
+made room = withSeat room 3 (setIn 0 (wish 0 asOpened) (seatOf room 3))
 
 behind-idle : (room : List ℕ) (calls : List Call) → callTold directory idle room ≡ done []
     → answersFrom room (idle ∷ calls) ≡ values [] ∷ answersFrom (made room) calls

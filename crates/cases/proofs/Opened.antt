@@ -28,7 +28,7 @@ use Rattle.directory.specs.Directory.{foundFrom, isFit, ownerUsed, found}
 use Rattle.layout.specs.Parts.{put, part}
 use Rattle.layout.specs.Rows.{accountRow, headRow, stepRow, stepIn, accountIn, headIn}
 use Rattle.layout.specs.Seat.{headOf, withStep, seatOf, accountOf as layoutAccountOf, withSeat, stepOf, withAccount, withHead}
-use Rattle.seat.specs.Settings.{limitNumber, settingsOf}
+use Rattle.seat.specs.Settings.{limitNumber, settingsOf, openingLimit, openingSettings}
 use Rattle.seat.specs.Calls.{noTicket, accountFound, sumsGood, pairGood, accountNamed}
 use Rattle.seat.specs.Fit.{seatFits, closedFits, closedSeat, openFits, openSeat, sumsOf, openAccounts, roomFits, sumsFrom, same}
 use Rattle.journal.specs.Traces.{earliest, waitsAs, leaves, firstIn, isThere, isKnown}
@@ -101,7 +101,7 @@ unfolding put part accountRow headRow stepRow stepIn accountIn headIn headOf wit
 layout-opened = tt
 
 unfoldable pub seat-opened : Unit {0}
-unfolding noTicket accountFound sumsGood pairGood limitNumber settingsOf accountNamed seatFits closedFits closedSeat openFits openSeat sumsOf
+unfolding noTicket accountFound sumsGood pairGood limitNumber settingsOf openingLimit openingSettings accountNamed seatFits closedFits closedSeat openFits openSeat sumsOf
     openAccounts roomFits sumsFrom same earliest waitsAs leaves firstIn isThere isKnown failsBy endsAs sentAs toldAs resultFits
     answerFrom answerTo isAnswered waits resultIn resultNow sameMovement answerable availableBelow turnoverAbove
     blockedOut blockedInto turnoverShut stepFits noSet movementFits noMovement moves isWaiting closes sameSettings isStored noUetr uetrFits

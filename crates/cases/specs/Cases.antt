@@ -20,7 +20,7 @@ use Rattle.directory.specs.declared.Participant.{Participant}
 use Rattle.directory.specs.declared.Kind.the-variants.{Owner, Direct, Indirect}
 use Rattle.seat.specs.declared.settings.Wish.{Wish}
 use Rattle.seat.specs.declared.settings.Limit.{Limit}
-use Rattle.seat.specs.declared.settings.Limit.the-variants.{Of, None}
+use Rattle.seat.specs.declared.settings.Limit.the-variants.{Of}
 use Rattle.strike.specs.Strike.{events}
 use Rattle.centre.specs.declared.Ticket.{Ticket}
 use Rattle.centre.specs.Answers.{Told, done, refused, refusedWith}
@@ -108,24 +108,29 @@ accepted n = slipped Camt050 Accc 0 n
 abbrev pub rejected : ℕ → ℕ → Answer
 rejected check n = slipped Camt050 Rjct check n
 
--- account 1 or 2 of 300001 is read: opening sum, balance, turnover, blocks outgoing and incoming, LTK, LPO
+-- account 1 or 2 of 300001 is read: opening sum, balance, turnover, blocks outgoing and incoming, LTK, LPO, which is 0 for none and n + 1 for n
 abbrev pub reads : ℕ → Call
 reads number = under ticket (read 300001 number)
 
--- account 1 of 300001 is set: no blocks, this LTK, this LPO
+-- account 1 of 300001 is set: no blocks, this LTK, this LPO. It opens with LTK 0 and an LPO of 500.00, its opening sum; a case that names one
+-- of the two leaves the other as it opened
 abbrev pub wish : ℕ → Limit → Wish
 wish ltk lpo = record { out = false; into = false; ltk = ltk; lpo = lpo }
 
 abbrev pub sets : ℕ → Limit → Call
 sets ltk lpo = under ticket (set 300001 1 (wish ltk lpo))
 
--- 1. All 500.00 of account 1 can be moved, and then there are 0.00 and 600.00. One kopeck more is too much
+abbrev pub asOpened : Limit
+asOpened = Of 50000
+
+-- 1. All 500.00 of account 1 can be moved, and then there are 0.00 and 600.00. One kopeck more is too much for its money, which is looked at before
+-- its LPO
 abbrev pub case1 : List Case
 case1 =
     fromStart (
     moves "1" "500.00" gives accepted 1
-    ∷ reads 1 gives values (50000 ∷ 0 ∷ 50000 ∷ 0 ∷ 0 ∷ 0 ∷ 0 ∷ [])
-    ∷ reads 2 gives values (10000 ∷ 60000 ∷ 0 ∷ 0 ∷ 0 ∷ 0 ∷ 0 ∷ [])
+    ∷ reads 1 gives values (50000 ∷ 0 ∷ 50000 ∷ 0 ∷ 0 ∷ 0 ∷ 50001 ∷ [])
+    ∷ reads 2 gives values (10000 ∷ 60000 ∷ 0 ∷ 0 ∷ 0 ∷ 0 ∷ 10001 ∷ [])
     ∷ [])
     ∷ fromStart (moves "1" "500.01" gives rejected 22 1 ∷ [])
     ∷ []
@@ -133,8 +138,8 @@ case1 =
 -- 2. With an LTK of 100.00 there are 400.00 to move, and not a kopeck more
 abbrev pub case2 : List Case
 case2 =
-    fromStart (sets 10000 None gives values [] ∷ moves "1" "400.00" gives accepted 2 ∷ [])
-    ∷ fromStart (sets 10000 None gives values [] ∷ moves "1" "400.01" gives rejected 22 2 ∷ [])
+    fromStart (sets 10000 asOpened gives values [] ∷ moves "1" "400.00" gives accepted 2 ∷ [])
+    ∷ fromStart (sets 10000 asOpened gives values [] ∷ moves "1" "400.01" gives rejected 22 2 ∷ [])
     ∷ []
 
 -- 3. With an LPO of 400.00 that much can be moved, and after it nothing. With an LPO of 0 nothing at all, by a check of its own
@@ -240,7 +245,7 @@ case10 =
     under ticket close gives values []
     ∷ begin gives values (2 ∷ [])
     ∷ reads 1 gives refusal 3
-    ∷ sets 0 None gives refusal 3
+    ∷ sets 0 asOpened gives refusal 3
     ∷ moves "1" "1.00" gives unslipped (refused 3)
     ∷ under ticket takeBack gives refusal 3
     ∷ under ticket close gives refusal 3
@@ -250,8 +255,8 @@ case10 =
 -- 11. With 24 steps there is no place for another; once one is taken back, its place and its number are free
 abbrev pub case11 : List Case
 case11 =
-    fromStart (replicate 24 (sets 0 None gives values [])
-    ++ (sets 0 None gives refusal 9
+    fromStart (replicate 24 (sets 0 asOpened gives values [])
+    ++ (sets 0 asOpened gives refusal 9
     ∷ moves "1" "1.00" gives unslipped (refused 9)
     ∷ under ticket takeBack gives values []
     ∷ moves "1" "1.00" gives accepted 24

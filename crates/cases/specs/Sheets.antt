@@ -18,17 +18,21 @@ uetr digit = bytes "6f1a2b3c-4d5e-4f60-8a9b-0c1d2e3f405" ++ bytes digit
 abbrev pub reference : List ℕ
 reference = bytes "INVOICE-7"
 
--- camt.050: an amount from the sender's account 1 to its account 2
-abbrev pub camt050 : String → String → String → String → List ℕ
-camt050 sender digit created amount =
+-- camt.050: an amount from one account of the sender to the other
+abbrev pub liquidity : String → String → String → String → String → String → List ℕ
+liquidity debit credit sender digit created amount =
     bytes "<Document><LqdyCdtTrf>"
     ++ bytes "<MsgHdr><MsgId>" ++ identifier sender digit ++ bytes "</MsgId><CreDtTm>" ++ bytes created ++ bytes "</CreDtTm></MsgHdr>"
     ++ bytes "<LqdyCdtTrf><LqdyTrfId>"
     ++ bytes "<UETR>" ++ uetr digit ++ bytes "</UETR>"
     ++ bytes "<TrfdAmt Ccy=\"UAH\">" ++ bytes amount ++ bytes "</TrfdAmt>"
-    ++ bytes "<DbtrAcct><Id><Othr><Id>1" ++ bytes sender ++ bytes "UAH</Id></Othr></Id></DbtrAcct>"
-    ++ bytes "<CdtrAcct><Id><Othr><Id>2" ++ bytes sender ++ bytes "UAH</Id></Othr></Id></CdtrAcct>"
+    ++ bytes "<DbtrAcct><Id><Othr><Id>" ++ bytes debit ++ bytes sender ++ bytes "UAH</Id></Othr></Id></DbtrAcct>"
+    ++ bytes "<CdtrAcct><Id><Othr><Id>" ++ bytes credit ++ bytes sender ++ bytes "UAH</Id></Othr></Id></CdtrAcct>"
     ++ bytes "</LqdyTrfId></LqdyCdtTrf></LqdyCdtTrf></Document>"
+
+-- from account 1 to account 2
+abbrev pub camt050 : String → String → String → String → List ℕ
+camt050 = liquidity "1" "2"
 
 -- pacs.008: 50.00 from a customer of 300001 to the IBAN of a customer of a receiving bank
 abbrev pub payment : String → String → String → String → List ℕ

@@ -4,6 +4,7 @@ pub mod Compared
 pub mod Fitness
 pub mod Forward
 pub mod Kept
+pub mod Limits
 pub mod Named
 pub mod Opened
 pub mod Opening

@@ -197,7 +197,7 @@ all-hold : (f : ℕ → Bool) (xs : List ℕ) → ((i : ℕ) → i < length xs �
 all-hold f [] rule = refl
 all-hold f (x ∷ xs) rule = rw (rule 0 (omega arith), all-hold f xs (λ (i : ℕ) (h : i < length xs). rule (suc i) (omega arith)))
 
-sum-most : (sums : List ℕ) (i : ℕ) → every (λ (sum : ℕ). leb sum sumMost) sums ≡ true → getD sums i 0 ≤ sumMost
+pub sum-most : (sums : List ℕ) (i : ℕ) → every (λ (sum : ℕ). leb sum sumMost) sums ≡ true → getD sums i 0 ≤ sumMost
 sum-most sums i e = leb-true (getD sums i 0) sumMost (each (λ (sum : ℕ). leb sum sumMost) sums 0 refl e i)
 
 pub opened-most : (opening : ℕ) (sums : List ℕ) → every (λ (sum : ℕ). leb sum sumMost) sums ≡ true

@@ -9,11 +9,11 @@ use native.Mathlib.Numerals.{add-one}
 use lib.ListN.{length, getD, set, take, drop, replicate}
 use lib.Seq.{take-append-add, drop-append-add, take-suc, take-all, take-suc-set, length-take-le}
 use Rattle.slip.specs.Meaning.{steps}
-use Rattle.layout.specs.declared.rows.Settings.{Settings}
+use Rattle.layout.specs.declared.rows.Account.{Account}
 use Rattle.layout.specs.Parts.{put}
 use Rattle.layout.specs.Rows.{headRow, accountRow, accountLong, stepLong}
 use Rattle.layout.specs.Seat.{accounts, seatLong, accountOf, withHead, withAccount}
-use Rattle.journal.specs.Steps.{noSettings}
+use Rattle.seat.specs.Settings.{limitNumber, settingsOf, openingLimit, openingSettings}
 use Rattle.seat.specs.Fit.{openAccount, openAccounts, openSeat, sumsFrom, sumsOf}
 
 -- what is put behind the first of two lists is put into the second
@@ -24,7 +24,7 @@ put-past r s k w ys =
 
 -- the head of a seat that is all zeros is put
 pub opens-none : (opening : ℕ) → withHead (replicate seatLong 0) (record { opening = opening; opened = 1; steps = 0 }) ≡ openSeat opening []
-unfolding withHead put headRow openSeat openAccounts accountRow
+unfolding withHead put headRow openSeat openAccounts accountRow openingSettings openingLimit settingsOf limitNumber
 opens-none opening = refl
 
 -- the account behind n others is put: of an opened seat it was all zeros
@@ -51,18 +51,17 @@ opens-next opening xs y h =
     ∙ ap (λ (u : List ℕ). head ++ u) (opens-account accounts xs z y h)
 
 -- one turn of the loop that opens, and its end
-pub opens-turn : (opening i : ℕ) (sums s t : List ℕ) (x : Settings) → i < length sums → length sums ≤ accounts
-    → s ≡ openSeat opening (take i sums) → x ≡ noSettings
-    → t ≡ withAccount s i (record { opening = getD sums i 0; balance = getD sums i 0; turnover = 0; settings = x })
+pub opens-turn : (opening i : ℕ) (sums s t : List ℕ) (a : Account) → i < length sums → length sums ≤ accounts
+    → s ≡ openSeat opening (take i sums) → a ≡ openAccount (getD sums i 0) → t ≡ withAccount s i a
     → t ≡ openSeat opening (take (i + 1) sums)
-opens-turn opening i sums s t x h l was none e =
+opens-turn opening i sums s t a h l was new e =
     let long : length (take i sums) ≡ i = length-take-le i sums (omega arith) in
     let turn : withAccount (openSeat opening (take i sums)) i (openAccount (getD sums i 0)) ≡ openSeat opening (take i sums ++ (getD sums i 0 ∷ [])) =
     subst
     (λ (k : ℕ). withAccount (openSeat opening (take i sums)) k (openAccount (getD sums i 0)) ≡ openSeat opening (take i sums ++ (getD sums i 0 ∷ [])))
     long
     (opens-next opening (take i sums) (getD sums i 0) (omega arith)) in
-    rw (e, was, none, add-one i, take-suc sums i 0 h) turn
+    rw (e, was, new, add-one i, take-suc sums i 0 h) turn
 
 pub opens-all : (opening i : ℕ) (sums s : List ℕ) → length sums ≤ i → s ≡ openSeat opening (take i sums) → s ≡ openSeat opening sums
 opens-all opening i sums s h e = e ∙ ap (openSeat opening) (take-all i sums h)

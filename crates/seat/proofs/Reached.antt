@@ -7,7 +7,7 @@ use mathlib.Core.List.{List}
 use mathlib.Core.Option.{some}
 use Prim.Native.Nat.{ℕ, zero, suc, _+_, _-_, _≤_, _<_}
 use native.Mathlib.Omega.{arith}
-use lib.ListN.{length}
+use lib.ListN.{length, getD}
 use Rattle.shape.specs.Bits.{total}
 use Rattle.slip.specs.Meaning.{steps}
 use Rattle.layout.specs.declared.rows.Head.{Head}
@@ -20,9 +20,10 @@ use Rattle.journal.proofs.Changed.{sort, stepped-account}
 use Rattle.journal.proofs.Backed.{possible-fits}
 use Rattle.journal.proofs.Sums.{balancesFrom, balances-stay}
 use Rattle.journal.proofs.WorkedLaws.{Last, worked-last, journal-long, journal-last, worked-keeps}
-use Rattle.journal.proofs.Settings.{after-settings, no-settings-fit}
+use Rattle.journal.proofs.Settings.{after-settings}
 use Rattle.seat.specs.Fit.{openSeat, sumsFrom, sumsOf, openFits}
-use Rattle.seat.proofs.Opened.{opened-head, opened-length, opened-account, opened-sums}
+use Rattle.seat.proofs.Limits.{opening-settings-fit}
+use Rattle.seat.proofs.Opened.{opened-head, opened-length, opened-account, opened-sums, sum-most}
 use Rattle.seat.proofs.Forward.{Fits, open-fits, made-free, sums-long}
 
 -- the last step of a seat that fits
@@ -64,7 +65,8 @@ fit-settings s l e i b =
     let fits : stepFits x ≡ true = possible-fits x t can in
     rw (stepped-account x t d fits room i b) (after-settings x i (accountOf t i) fits p (sort x fits)))
     s e
-    (rw (opened-account (headOf s .opening) (sumsOf s) i b) no-settings-fit)
+    (rw (opened-account (headOf s .opening) (sumsOf s) i b)
+    (opening-settings-fit (getD (sumsOf s) i 0) (sum-most (sumsOf s) i (open-fits s e .sums))))
 
 -- balances that are the opening sums
 balances-open : (s : List ℕ) (i n : ℕ) → ((j : ℕ) → i ≤ j → j < i + n → accountOf s j .balance ≡ accountOf s j .opening)

@@ -13,8 +13,9 @@ use Rattle.layout.specs.declared.rows.Head.{Head}
 use Rattle.layout.specs.declared.rows.Account.{Account}
 use Rattle.layout.specs.Rows.{headLong, headRow, accountRow, stepLong}
 use Rattle.layout.specs.Seat.{accounts, seatLong, roomLong, headOf, accountOf, seatOf}
-use Rattle.journal.specs.Steps.{sumMost, noSettings}
+use Rattle.journal.specs.Steps.{sumMost}
 use Rattle.journal.specs.Working.{journalOf, worked}
+use Rattle.seat.specs.Settings.{openingSettings}
 
 -- two lists of numbers are the same
 unfoldable pub same : List ℕ → List ℕ → Bool
@@ -29,9 +30,9 @@ closedSeat opening = headRow (record { opening = opening; opened = 0; steps = 0 
 
 -- an account that was just opened
 abbrev pub openAccount : ℕ → Account
-openAccount sum = record { opening = sum; balance = sum; turnover = 0; settings = noSettings }
+openAccount sum = record { opening = sum; balance = sum; turnover = 0; settings = openingSettings sum }
 
--- n accounts with these opening sums; where there are no more sums, with 0
+-- n accounts with these opening sums; where there are no more sums, with 0, which leaves all their numbers zero
 unfoldable pub openAccounts : ℕ → List ℕ → List ℕ
 openAccounts zero sums = []
 openAccounts (suc n) [] = accountRow (openAccount 0) ++ openAccounts n []

@@ -1,8 +1,8 @@
 // Whether a seat is fit: it is worked out anew from its opening sums and its journal, and compared. The rules stand in `specs/Fit.antt`.
+use crate::settings::opening_settings;
 use journal::SUM_MOST;
 use journal::append;
 use journal::is_possible;
-use journal::no_settings;
 use layout::ACCOUNTS;
 use layout::ROOM_LONG;
 use layout::SEAT_LONG;
@@ -27,7 +27,7 @@ ghost use Rattle.slip.specs.Meaning.{steps};
 ghost use Rattle.layout.specs.Seat.{accounts, seatLong};
 ghost use Rattle.journal.specs.Steps.{sumMost};
 ghost use Rattle.journal.specs.Working.{stepsFrom, worked};
-ghost use Rattle.seat.specs.Fit.{same, openSeat, sumsOf, comesOut, openFits, closedFits, seatFits, roomFits};
+ghost use Rattle.seat.specs.Fit.{same, openAccount, openSeat, sumsOf, comesOut, openFits, closedFits, seatFits, roomFits};
 
 // Whether two lists of numbers are the same.
 fn is_same(s: &[u64], t: &[u64]) -> bool
@@ -75,6 +75,18 @@ pub fn sums_fit(s: &[u64]) -> bool
     true
 }
 
+// An account that was just opened.
+fn opened(sum: u64) -> Account
+    ensures { λ r. ⌜ r ≡ openAccount sum ⌝ }
+{
+    Account {
+        opening: sum,
+        balance: sum,
+        turnover: 0,
+        settings: opening_settings(sum),
+    }
+}
+
 // Opens a seat that is all zeros.
 pub fn open_with(s: &mut [u64], opening: u64, sums: &[u64])
     requires { ⌜ (now s ≡ replicate seatLong 0) × (length (now sums) ≤ accounts) ⌝ }
@@ -90,16 +102,7 @@ pub fn open_with(s: &mut [u64], opening: u64, sums: &[u64])
     );
     let mut i = 0;
     while i < sums.len() {
-        put_account(
-            s,
-            i,
-            Account {
-                opening: sums[i],
-                balance: sums[i],
-                turnover: 0,
-                settings: no_settings(),
-            },
-        );
+        put_account(s, i, opened(sums[i]));
         i += 1;
     }
 }

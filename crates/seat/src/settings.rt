@@ -1,8 +1,8 @@
-// An account's settings: what a set call gives, and how it is stored. The rules stand in `specs/Settings.antt`.
+// An account's settings: what a set call gives, how it is stored, and what an account opens with. The rules stand in `specs/Settings.antt`.
 use journal::SUM_MOST;
 use layout::rows::Settings;
 ghost use mathlib.Core.Path.{_≡_};
-ghost use Rattle.seat.specs.Settings.{blockNumber, limitNumber, settingsOf};
+ghost use Rattle.seat.specs.Settings.{blockNumber, limitNumber, settingsOf, openingLimit, openingSettings};
 
 // An account's LPO: none, or a limit in kopecks, which may be 0.
 pub enum Limit {
@@ -49,4 +49,26 @@ pub fn settings_of(wish: Wish) -> Settings
         ltk: wish.ltk,
         lpo: limit_number(lpo),
     }
+}
+
+// The LPO that an account opens with: its opening sum, or none where that is 0. An LPO of 0 would stop all that goes out.
+fn opening_limit(sum: u64) -> Limit
+    ensures { λ r. ⌜ r ≡ openingLimit sum ⌝ }
+{
+    if sum == 0 {
+        return Limit::None;
+    }
+    Limit::Of(sum)
+}
+
+// The settings that an account opens with.
+pub fn opening_settings(sum: u64) -> Settings
+    ensures { λ r. ⌜ r ≡ openingSettings sum ⌝ }
+{
+    settings_of(Wish {
+        out: false,
+        into: false,
+        ltk: 0,
+        lpo: opening_limit(sum),
+    })
 }

@@ -10,7 +10,7 @@ use Rattle.table.specs.declared.Kind.the-variants.{Pacs008, Pacs028, Pacs002}
 use Rattle.slip.specs.declared.Status.the-variants.{Pdng, Accc, Rjct, Waits}
 use Rattle.directory.specs.declared.Participant.{Participant}
 use Rattle.directory.specs.declared.Kind.the-variants.{Owner}
-use Rattle.seat.specs.declared.settings.Limit.the-variants.{None}
+use Rattle.seat.specs.declared.settings.Limit.the-variants.{Of}
 use Rattle.strike.specs.Strike.{events}
 use Rattle.demands.specs.Calls.{set, takeBack, read, Call, under, callRoom, newRoom}
 use Rattle.demands.specs.Seats.{Answer, centre}
@@ -41,16 +41,20 @@ rejects check n = slipped Pacs002 Rjct check n
 abbrev pub back : Line
 back = under ticket takeBack gives values []
 
--- account 2 of an owner: opening sum, balance, turnover, blocks, LTK and LPO
+-- account 2 of an owner: opening sum, balance, turnover, blocks, LTK and LPO. That of 300001 opened with 100.00, which is its LPO; that of 300002
+-- with nothing, and so with no LPO
 abbrev pub reads : ℕ → Call
 reads owner = under ticket (read owner 2)
 
-abbrev pub holds : ℕ → ℕ → ℕ → Answer
-holds sum balance turnover = values (sum ∷ balance ∷ turnover ∷ 0 ∷ 0 ∷ 0 ∷ 0 ∷ [])
+abbrev pub payer : ℕ → ℕ → Answer
+payer balance turnover = values (10000 ∷ balance ∷ turnover ∷ 0 ∷ 0 ∷ 0 ∷ 10001 ∷ [])
 
--- account 2 of 300001 is given this LTK
+abbrev pub payee : ℕ → Answer
+payee balance = values (0 ∷ balance ∷ 0 ∷ 0 ∷ 0 ∷ 0 ∷ 0 ∷ [])
+
+-- account 2 of 300001 is given this LTK; its LPO stays
 abbrev pub keepsBack : ℕ → Call
-keepsBack ltk = under ticket (set 300001 2 (wish ltk None))
+keepsBack ltk = under ticket (set 300001 2 (wish ltk (Of 10000)))
 
 -- calls with their answers under one directory after the other
 pub record Part : Type 0 where
@@ -69,12 +73,12 @@ abbrev pub settled : List Part
 settled =
     here (
     pays gives waits 1
-    ∷ reads 300001 gives holds 10000 10000 0
+    ∷ reads 300001 gives payer 10000 0
     ∷ asks gives slipped Pacs028 Pdng 10 2
     ∷ back
     ∷ accepts 300002 "300002" "4" gives settles 2
-    ∷ reads 300001 gives holds 10000 5000 5000
-    ∷ reads 300002 gives holds 0 5000 0
+    ∷ reads 300001 gives payer 5000 5000
+    ∷ reads 300002 gives payee 5000
     ∷ asks gives slipped Pacs028 Accc 0 3
     ∷ declines "5" gives rejects 35 4
     ∷ [])
@@ -94,7 +98,7 @@ rejected =
     ∷ back
     ∷ back
     ∷ accepts 300002 "300002" "4" gives settles 2
-    ∷ reads 300001 gives holds 10000 5000 5000
+    ∷ reads 300001 gives payer 5000 5000
     ∷ [])
     ∷ []
 
@@ -128,7 +132,7 @@ branch =
     from 300001 (payment "300012" "1" morning "UA213223130000026007233566001") gives waits 1
     ∷ accepts 300002 "300002" "4" gives rejects 35 2
     ∷ accepts 300012 "300012" "5" gives settles 3
-    ∷ reads 300002 gives holds 0 5000 0
+    ∷ reads 300002 gives payee 5000
     ∷ [])
     ∷ []
 
@@ -140,7 +144,7 @@ abbrev pub answeredElsewhere : Part
 answeredElsewhere = record { dir = receiverAlone; lines = accepts 300002 "300002" "4" gives settles 2 ∷ [] }
 
 abbrev pub readAgain : Part
-readAgain = here (reads 300001 gives holds 10000 5000 5000 ∷ reads 300002 gives holds 0 5000 0 ∷ [])
+readAgain = here (reads 300001 gives payer 5000 5000 ∷ reads 300002 gives payee 5000 ∷ [])
 
 abbrev pub elsewhere : List Part
 elsewhere = paid ∷ answeredElsewhere ∷ readAgain ∷ []

@@ -2,14 +2,14 @@
 
 use super::{Maker, Touched, EDGES};
 use crate::directory::Kind;
-use crate::room::{STEPS, SUM_MOST};
+use crate::room::{OPENING, STEPS, SUM_MOST};
 
 impl Maker {
     pub(super) fn settings(&mut self) -> String {
         let out = u64::from(self.dice.chance(12));
         let into = u64::from(self.dice.chance(12));
         let limits = [0, 1, 5_000, 1_000_000, SUM_MOST, SUM_MOST + 1, u64::MAX];
-        let ltk = limits[self.dice.weighed(&[50, 10, 20, 10, 5, 4, 1])];
+        let ltk = limits[self.dice.weighed(&[44, 12, 22, 12, 5, 4, 1])];
         let lpo = match self.dice.weighed(&[40, 12, 48]) {
             0 => "-".to_string(),
             1 => "0".to_string(),
@@ -27,6 +27,12 @@ impl Maker {
         if self.line(&format!("set {} {} {} {} {}", number, opening, owner, account, settings)) {
             self.touched.push(Touched { seat: number, owner, number: account });
         }
+    }
+
+    /// Frees an account of blocks and limits, as a step: LPO is none then.
+    pub(super) fn free_account(&mut self, seat: u64, owner: u64, number: u64) {
+        let opening = self.seat(seat)[OPENING];
+        self.line(&format!("set {} {} {} {} 0 0 0 -", seat, opening, owner, number));
     }
 
     pub(super) fn take_back(&mut self) {

@@ -22,7 +22,7 @@ pub struct Transfer {
 }
 
 /// The check that an answer is meant to give: none for one that agrees.
-const AGREES: u64 = 0;
+pub const AGREES: u64 = 0;
 pub const VERDICTS: [u64; 3] = [AGREES, 36, 37];
 
 /// Elements that may stand in a pacs.002 and are ignored, such as a TxInfAndSts without a TxSts.
@@ -134,11 +134,11 @@ impl Maker {
             return attempt.draft.put(ANSWERED_ID, &id);
         }
         let own = self.answered_by(attempt).map_or(attempt.sender, |transfer| transfer.sender);
-        attempt.sender = match self.dice.below(8) {
-            0..=2 => self.kin(attempt.sender),
-            3 => self.relative(attempt.sender),
-            4 | 5 => own,
-            6 => self.code(|record| record.instant && record.kind == Kind::Owner).unwrap_or(own),
+        attempt.sender = match self.dice.below(9) {
+            0..=3 => self.kin(attempt.sender),
+            4 => self.relative(attempt.sender),
+            5 | 6 => own,
+            7 => self.code(|record| record.instant && record.kind == Kind::Owner).unwrap_or(own),
             _ => self.any_code(),
         };
         if self.dice.chance(80) {
@@ -220,6 +220,7 @@ impl Maker {
         if self.dice.chance(25) {
             self.ask(seat, &transfer.id);
         }
+        self.make_way(seat, &transfer, 30);
         let verdict = VERDICTS[self.dice.weighed(&[70, 15, 15])];
         if self.dice.chance(45) {
             self.answer_by_other_directory(seat, &transfer, verdict);

@@ -181,6 +181,12 @@ impl Maker {
                 break;
             }
         }
+        let amount = self.transfer_sum(most);
+        (sender, self.payment_of(sender, amount))
+    }
+
+    /// A pacs.008 of an amount, from a bank to any that may receive it.
+    pub(super) fn payment_of(&mut self, sender: u64, amount: u64) -> Draft {
         let instructed = self.code(|record| record.instant && is_bank(record)).unwrap_or(300_002);
         let (debtor_list, debtor) = self.agent(sender, false);
         let (creditor_list, creditor) = self.agent(instructed, true);
@@ -189,7 +195,6 @@ impl Maker {
             "SEP" if self.dice.chance(20) => member(self.any_code()),
             _ => String::new(),
         };
-        let amount = self.transfer_sum(most);
         let texts = [
             drafts::identifier(&mut self.dice, sender, self.date),
             self.created(self.date),
@@ -206,7 +211,7 @@ impl Maker {
             member(creditor),
             drafts::iban(&mut self.dice),
         ];
-        (sender, Draft::new(PAYMENT, &texts))
+        Draft::new(PAYMENT, &texts)
     }
 
     /// A pacs.008 sent before: one of this seat's journal, each result about as often as another but for waiting ones, or

@@ -59,7 +59,7 @@ impl Maker {
             Maker::poke_lacking,
         ];
         for _ in 0..self.dice.between(1, 3) {
-            let change = changes[self.dice.weighed(&[3, 2, 1, 2, 5, 2])];
+            let change = changes[self.dice.weighed(&[6, 5, 2, 4, 10, 4])];
             self.poke_alike(seat, change);
         }
     }
@@ -130,7 +130,7 @@ impl Maker {
         let old = self.movement_at(step);
         let mut movement = old;
         let other = 2 * self.dice.below(self.player.directory.len() as u64) + 1;
-        match self.dice.below(4) {
+        match self.dice.below(5) {
             0 | 1 => movement[1] = other,
             2 => movement[0] = other,
             _ => movement[2] = old[2].max(2) - 1,
@@ -201,8 +201,8 @@ impl Maker {
             (ANSWER, ACCC) => self.unsettle(from, step),
             (ANSWER, _) => self.settle(from, step),
             _ => {
-                let check = self.check_among(&[35, 35, 36, 20, 0], &REQUEST_ORDER);
-                let status = self.dice.pick(&[PDNG, ACCC, RJCT, RJCT, RJCT, RJCT, WAITS]);
+                let check = self.check_among(&[35, 35, 35, 36, 20, 0], &REQUEST_ORDER);
+                let status = self.dice.pick(&[PDNG, ACCC, RJCT, RJCT, RJCT, RJCT, RJCT, WAITS]);
                 self.put(step + STEP_CHECK, check);
                 self.put(step + STEP_STATUS, status);
             }

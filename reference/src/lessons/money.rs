@@ -1,16 +1,32 @@
 //! What a lesson does to accounts so that money moves or does not: settings, and money brought or taken while a transfer
 //! waits.
 
-use super::answers::{Transfer, VERDICTS};
+use super::answers::{Transfer, AGREES, VERDICTS};
 use super::attempts::{payable, Attempt};
-use super::drafts::{self, amount_field, CREDITOR_ACCOUNT, DEBTOR_ACCOUNT};
+use super::drafts::{self, amount_field, Draft, CREDITOR_ACCOUNT, DEBTOR_ACCOUNT, MSG_ID};
+use super::limits::{limit_left, LIMIT_ZERO};
 use super::{Maker, Touched};
 use crate::directory::{self, Kind};
-use crate::room::{self, ANSWER, LIQUIDITY, OPENING, REQUEST, SUM_MOST};
+use crate::room::{self, ANSWER, LIQUIDITY, NO_LIMIT, OPENING, REQUEST, SUM_MOST};
 use crate::shapes::AMOUNT_MOST;
 
 /// An account by its owner's code and its number, 1 or 2.
 type Named = (u64, u64);
+
+/// Gives a camt.050 an amount that is one kopeck too high for the money of its account (22) or for its limit (23); false
+/// where that is not to be had.
+fn overdraw(draft: &mut Draft, account: &[u64], check: u64) -> bool {
+    let most = match check {
+        22 => account[room::BALANCE].saturating_sub(account[room::LTK]),
+        23 if account[room::LPO] > LIMIT_ZERO => limit_left(account),
+        _ => return false,
+    };
+    let is_alterable = draft.kind == LIQUIDITY && most < AMOUNT_MOST;
+    if is_alterable {
+        draft.put(amount_field(LIQUIDITY), &drafts::amount(most + 1));
+    }
+    is_alterable
+}
 
 impl Maker {
     /// The owner that now stands at the place of an account, and the account's number, 1 or 2.
@@ -41,7 +57,7 @@ impl Maker {
     /// since the others fail none of them.
     pub(super) fn spoil_money(&mut self, attempt: &mut Attempt, check: u64) {
         if attempt.draft.kind == ANSWER && self.dice.chance(70) {
-            self.put_verdict(&mut attempt.draft, 0);
+            self.put_verdict(&mut attempt.draft, AGREES);
         }
         let (accounts, amount) = match self.movement_of(attempt) {
             Some(movement) => movement,
@@ -53,10 +69,8 @@ impl Maker {
             _ => return,
         };
         let account = self.account(attempt.seat, room::account_number(place, number)).to_vec();
-        let available = account[room::BALANCE].saturating_sub(account[room::LTK]);
-        let is_alterable = attempt.draft.kind == LIQUIDITY && available < AMOUNT_MOST;
-        if check == 22 && is_alterable && self.dice.chance(60) {
-            return attempt.draft.put(amount_field(LIQUIDITY), &drafts::amount(available + 1));
+        if self.dice.chance(60) && overdraw(&mut attempt.draft, &account, check) {
+            return;
         }
         let less = self.dice.below(2); // just met, or one kopeck too little
         let mut settings = account[room::SETTINGS].to_vec();
@@ -121,8 +135,24 @@ impl Maker {
         }
     }
 
+    /// Lifts the limit of the account that a transfer debits where it is in the way, so often in a hundred: the account has
+    /// none then, or lets out what the transfer asks for, or one kopeck less.
+    pub(super) fn make_way(&mut self, seat: u64, transfer: &Transfer, percent: u64) {
+        let mut account = self.account(seat, transfer.debit).to_vec();
+        let is_in_the_way = account[room::LPO] != NO_LIMIT && limit_left(&account) < transfer.amount;
+        if !is_in_the_way || !self.dice.chance(percent) {
+            return;
+        }
+        let enough = (account[room::TURNOVER] + transfer.amount).min(SUM_MOST) + LIMIT_ZERO;
+        account[room::LPO] = self.dice.pick(&[NO_LIMIT, NO_LIMIT, enough, enough - 1]);
+        if let Some(named) = self.owner_at(transfer.debit) {
+            self.set_stored(seat, named, &account[room::SETTINGS]);
+        }
+    }
+
     /// Moves money to the account that a transfer debits: as much as it lacks, or one kopeck less, or any.
     fn bring_money(&mut self, seat: u64, transfer: &Transfer) {
+        self.make_way(seat, transfer, 60);
         let account = self.account(seat, transfer.debit);
         let lacking = (account[room::LTK] + transfer.amount).saturating_sub(account[room::BALANCE]);
         let most = payable(self.account(seat, transfer.debit - 1));
@@ -131,22 +161,42 @@ impl Maker {
             1 => self.sum(most),
             _ => lacking,
         };
-        self.move_money(seat, transfer, 1, amount.min(most));
+        self.move_kept_money(seat, transfer, 1, amount.min(most));
     }
 
     /// Moves money away from it: so that just enough is left, or one kopeck less.
     fn take_money(&mut self, seat: u64, transfer: &Transfer) {
         let most = payable(self.account(seat, transfer.debit));
         let amount = most.saturating_sub(transfer.amount) + self.dice.below(2);
-        self.move_money(seat, transfer, 2, amount.min(most));
+        self.move_kept_money(seat, transfer, 2, amount.min(most));
     }
 
-    fn move_money(&mut self, seat: u64, transfer: &Transfer, from: u64, amount: u64) {
-        if let (Some((owner, _)), true) = (self.owner_at(transfer.debit), amount > 0) {
-            let draft = self.liquidity_of(owner, from, amount);
+    /// Moves money from one account of the owner whose account a transfer debits, to the other.
+    fn move_kept_money(&mut self, seat: u64, transfer: &Transfer, from: u64, amount: u64) {
+        if let Some((owner, _)) = self.owner_at(transfer.debit) {
+            self.move_money(seat, owner, from, amount);
+        }
+    }
+
+    /// Moves money from one account of an owner to the other, if it is any.
+    pub(super) fn move_money(&mut self, seat: u64, owner: u64, from: u64, amount: u64) {
+        if amount > 0 {
+            let draft = self.liquidity_of(owner, from, amount.min(AMOUNT_MOST));
             let opening = self.seat(seat)[OPENING];
             let attempt = self.attempt(seat, opening, owner, draft);
             self.send(&attempt, attempt.draft.sheet());
+        }
+    }
+
+    /// Sends a transfer of an amount, to which its receiver agrees.
+    pub(super) fn pay(&mut self, seat: u64, sender: u64, amount: u64) {
+        let draft = self.payment_of(sender, amount.min(AMOUNT_MOST));
+        let opening = self.seat(seat)[OPENING];
+        let attempt = self.attempt(seat, opening, sender, draft);
+        self.send(&attempt, attempt.draft.sheet());
+        let id = attempt.draft.text(MSG_ID);
+        if let Some(transfer) = self.transfers(seat).into_iter().find(|transfer| transfer.waits && transfer.id == id) {
+            self.send_answer(seat, &transfer, AGREES);
         }
     }
 }

@@ -33,6 +33,9 @@ const WRONG_LENGTHS: [usize; 13] = [
     ROOM_LONG + 16,
 ];
 
+/// So often in a hundred a set comes before meddling with settings.
+const SET_PERCENT: u64 = 40;
+
 impl Maker {
     /// A place of the room: mostly in the head, the accounts or the used steps of an open seat.
     fn place(&mut self) -> usize {
@@ -88,11 +91,12 @@ impl Maker {
     /// A number of the room is changed, a call or two are made, and it is mostly changed back.
     pub(super) fn poke(&mut self) {
         let seat = self.some_seat();
-        match self.dice.below(24) {
-            0 | 1 => self.poke_alike(seat, Maker::poke_sums),
-            2..=4 => self.poke_alike(seat, Maker::poke_movement),
-            5 | 6 => self.poke_alike(seat, Maker::poke_setting),
-            7..=16 => self.poke_transfers(seat),
+        match self.dice.below(31) {
+            0..=2 => self.poke_alike(seat, Maker::poke_sums),
+            3..=5 => self.poke_alike(seat, Maker::poke_movement),
+            6..=8 => self.poke_set(seat, Maker::poke_setting),
+            9..=20 => self.poke_transfers(seat),
+            21..=23 => self.poke_set(seat, Maker::poke_opening_limits),
             _ => {
                 let place = self.place();
                 let old = self.player.room()[place];
@@ -122,6 +126,14 @@ impl Maker {
         }
     }
 
+    /// The same, often after an account was set.
+    fn poke_set(&mut self, seat: u64, change: fn(&mut Maker, usize)) {
+        if self.dice.chance(SET_PERCENT) {
+            self.set_account();
+        }
+        self.poke_alike(seat, change);
+    }
+
     /// The lowest balance that an account has on its way through the journal.
     fn lowest(&self, from: usize, account: usize) -> u64 {
         let seat = &self.player.room()[from..from + SEAT_LONG];
@@ -138,7 +150,8 @@ impl Maker {
         lowest
     }
 
-    /// An account's opening sum, and its balance by as much: on the way nothing may be left, or one kopeck less.
+    /// An account's opening sum, and its balance and opening limit by as much: on the way nothing may be left, or one
+    /// kopeck less.
     fn poke_sums(&mut self, from: usize) {
         let mut account = 0;
         for _ in 0..8 {
@@ -160,6 +173,7 @@ impl Maker {
         };
         self.put(at, other);
         self.put(at + 1, balance.wrapping_add(other).wrapping_sub(opening));
+        self.follow_opening_sum(from, account);
     }
 
     /// A step of a kind in the seat's journal, by its place in the room.
@@ -232,6 +246,7 @@ impl Maker {
             // opened with as much more, the account has the money at that step
             self.shift(from, debit, room::OPENING_SUM, amount);
             self.shift(from, debit, room::BALANCE, amount);
+            self.follow_opening_sum(from, (debit as usize).min(room::ACCOUNTS - 1));
         }
         self.put_movements(from, step, [debit, credit, amount]);
     }

@@ -65,7 +65,7 @@ impl Maker {
         let check = room::journal(self.seat(attempt.seat)).last().map_or(0, |step| step[room::STEP_CHECK]);
         let waits = self.transfers(attempt.seat).iter().any(|transfer| transfer.waits && transfer.id == id);
         let percent = match check {
-            3 | 5 | 6 if attempt.draft.kind == PAYMENT => 80,
+            3 | 5 | 6 | 29 if attempt.draft.kind == PAYMENT => 80,
             _ if waits => 6,
             _ => 45,
         };

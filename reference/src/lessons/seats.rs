@@ -126,11 +126,12 @@ impl Maker {
         let mut sums = Vec::new();
         for record in self.player.directory.clone() {
             for _ in 0..2 {
-                let sum = match self.dice.below(12) {
-                    0 => 0,
-                    1 => SUM_MOST,
-                    2 => self.dice.between(1, SUM_MOST),
-                    3 => self.dice.between(1, 100),
+                let sum = match self.dice.below(24) {
+                    0..=2 => 0,
+                    3 | 4 => SUM_MOST,
+                    5 | 6 => self.dice.between(1, SUM_MOST),
+                    7 => 1,
+                    8 => self.dice.between(1, 100),
                     _ => self.dice.between(1_000, 10_000_000),
                 };
                 sums.push(if record.kind == Kind::Owner { sum } else { 0 });
@@ -148,7 +149,11 @@ impl Maker {
         let sums = self.sums();
         self.sent.retain(|sent| sent.seat != number);
         self.touched.retain(|touched| touched.seat != number);
-        self.open_with(number, &sums)
+        let done = self.open_with(number, &sums);
+        if done {
+            self.lift_limits(number);
+        }
+        done
     }
 
     /// Opens with sums of which one, or their count, is bad.

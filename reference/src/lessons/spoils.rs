@@ -50,7 +50,7 @@ impl Maker {
     pub(super) fn check_of(&mut self, kind: u64) -> u64 {
         match kind {
             REQUEST if self.dice.chance(30) => 11, // 11 shows only where nothing before it fails
-            LIQUIDITY if self.dice.chance(20) => self.dice.pick(&[22, 23, 24]),
+            LIQUIDITY if self.dice.chance(20) => self.dice.pick(&[22, 23, 24, 24]),
             _ => self.dice.pick(order_of(kind)),
         }
     }

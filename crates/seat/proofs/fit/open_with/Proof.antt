@@ -1,4 +1,4 @@
--- Behind each turn the seat is opened with the sums so far, since an account without a sum is all zeros.
+-- After each turn the seat is opened with the sums so far, since an account without a sum is all zeros.
 use mathlib.Core.Path.{_≡_, ap, _∙_}
 use mathlib.Core.List.{List}
 use Prim.Native.Nat.{ℕ, _≤_, _-_}
@@ -21,25 +21,27 @@ put-head-requires : tie.Need-put-head-requires Inv-loop μ-loop
 put-head-requires c κs = ap length (c .before .before .before .pre .0)
 
 loop-holds : tie.Need-loop-holds Inv-loop μ-loop
-loop-holds c = (omega arith, c .before .before .before .before .before .before .pre .1, c .before .before .put-head .kept .0 ∙ ap length (c .before .before .before .before .before .before .pre .0), c .before .before .put-head .ensures ∙ ap (λ (s : List ℕ). withHead s (record { opening = c .before .before .before .before .before .before .args .opening; opened = 1; steps = 0 })) (c .before .before .before .before .before .before .pre .0) ∙ opens-none (c .before .before .before .before .before .before .args .opening))
+loop-holds c = (
+  omega arith,
+  c .before .before .before .before .before .before .pre .1,
+  c .before .before .put-head .kept .0 ∙ ap length (c .before .before .before .before .before .before .pre .0),
+  c .before .before .put-head .ensures
+      ∙ ap (λ (s : List ℕ). withHead s (record { opening = c .before .before .before .before .before .before .args .opening; opened = 1; steps = 0 }))
+      (c .before .before .before .before .before .before .pre .0)
+      ∙ opens-none (c .before .before .before .before .before .before .args .opening),
+)
 
-mul-t9 : tie.Need-mul-t9 Inv-loop μ-loop
-mul-t9 c = search needs
+mul-opened : tie.Need-mul-opened Inv-loop μ-loop
+mul-opened c = search needs
 
-shared-slice-read-t15 : tie.Need-shared-slice-read-t15 Inv-loop μ-loop
-shared-slice-read-t15 c = omega arith
+shared-slice-read-opened : tie.Need-shared-slice-read-opened Inv-loop μ-loop
+shared-slice-read-opened c = omega arith
 
-mul-t16 : tie.Need-mul-t16 Inv-loop μ-loop
-mul-t16 c = search needs
-
-shared-slice-read-t18 : tie.Need-shared-slice-read-t18 Inv-loop μ-loop
-shared-slice-read-t18 c = omega arith
-
-no-settings-requires : tie.Need-no-settings-requires Inv-loop μ-loop
-no-settings-requires c κs = tt
+opened-requires : tie.Need-opened-requires Inv-loop μ-loop
+opened-requires c κs = tt
 
 put-account-requires : tie.Need-put-account-requires Inv-loop μ-loop
-put-account-requires c κs = (c .before .before .before .before .before .loop .inv .2, omega arith)
+put-account-requires c κs = (c .before .before .before .before .loop .inv .2, omega arith)
 
 add-i : tie.Need-add-i Inv-loop μ-loop
 add-i c = omega arith
@@ -48,13 +50,36 @@ loop-less : tie.Need-loop-less Inv-loop μ-loop
 loop-less c = omega arith
 
 loop-again : tie.Need-loop-again Inv-loop μ-loop
-loop-again c = (omega arith, c .before .before .before .before .before .before .before .before .loop .inv .1, c .before .before .put-account .kept .0 ∙ c .before .before .before .before .before .before .before .before .loop .inv .2, opens-turn (c .before .before .before .before .before .before .before .before .before .before .before .before .before .before .before .args .opening) (c .before .before .before .before .before .before .before .before .loop .i) (c .before .before .before .before .before .before .before .before .before .before .before .before .before .before .before .args .sums .now) (c .before .before .before .before .before .before .before .before .loop .s) (c .before .before .put-account .last .0) (c .before .before .before .no-settings .result) (omega arith) (c .before .before .before .before .before .before .before .before .loop .inv .1) (c .before .before .before .before .before .before .before .before .loop .inv .3) (c .before .before .before .no-settings .ensures) (c .before .before .put-account .ensures))
+loop-again c = (
+  omega arith,
+  c .before .before .before .before .before .before .before .loop .inv .1,
+  c .before .before .put-account .kept .0 ∙ c .before .before .before .before .before .before .before .loop .inv .2,
+  opens-turn
+      (c .before .before .before .before .before .before .before .before .before .before .before .before .before .before .args .opening)
+      (c .before .before .before .before .before .before .before .loop .i)
+      (c .before .before .before .before .before .before .before .before .before .before .before .before .before .before .args .sums .now)
+      (c .before .before .before .before .before .before .before .loop .s)
+      (c .before .before .put-account .last .0)
+      (c .before .before .before .opened .result)
+      (omega arith)
+      (c .before .before .before .before .before .before .before .loop .inv .1)
+      (c .before .before .before .before .before .before .before .loop .inv .3)
+      (c .before .before .before .opened .ensures)
+      (c .before .before .put-account .ensures),
+)
 
 same-length : tie.Need-same-length Inv-loop μ-loop
 same-length c = search needs
 
 returns : tie.Need-returns Inv-loop μ-loop
-returns c = opens-all (c .before .before .before .before .before .before .before .before .args .opening) (c .before .loop .i) (c .before .before .before .before .before .before .before .before .args .sums .now) (c .before .loop .s) (c .loop-test .left) (c .before .loop .inv .3)
+returns c =
+    opens-all
+    (c .before .before .before .before .before .before .before .before .args .opening)
+    (c .before .loop .i)
+    (c .before .before .before .before .before .before .before .before .args .sums .now)
+    (c .before .loop .s)
+    (c .loop-test .left)
+    (c .before .loop .inv .3)
 
 pub open-with-spec : {M : Type 1} → statement M
 open-with-spec =
@@ -64,11 +89,9 @@ open-with-spec =
     μ-loop
     put-head-requires
     loop-holds
-    mul-t9
-    shared-slice-read-t15
-    mul-t16
-    shared-slice-read-t18
-    no-settings-requires
+    mul-opened
+    shared-slice-read-opened
+    opened-requires
     put-account-requires
     add-i
     loop-less
