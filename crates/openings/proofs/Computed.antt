@@ -1,7 +1,7 @@
 -- The cases of an opening hold because every call, worked out, gives what stands beside it. They are worked out case by case, and then joined.
 -- Assumes nothing.
 use mathlib.Core.Path.{_≡_, refl}
-use Rattle.cases.specs.Cases.{Case, played}
+use Rattle.cases.specs.Cases.{played}
 use Rattle.cases.proofs.Opened.{opened}
 use Rattle.openings.specs.Openings.{both, received, fromNothing, setFirst, atSettling, Openings}
 

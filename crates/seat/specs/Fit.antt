@@ -1,7 +1,7 @@
 -- When a seat and a room are fit, directory aside: document 01, "Room, seats, directory". Length and ranges are right, and worked forward from
 -- the opening sums over the journal, no balance ever falls below zero and the very numbers come out that are stored. A closed seat is all zeros
 -- but for its opening count.
-use mathlib.Core.Bool.{Bool, true, false, _&&_, _||_, cond}
+use mathlib.Core.Bool.{Bool, true, false, _&&_, cond}
 use mathlib.Core.List.{List, [], _∷_, _++_}
 use mathlib.Core.Option.{Option, none, some}
 use Prim.Native.Nat.{ℕ, zero, suc, _*_, _-_}
@@ -9,7 +9,6 @@ use lib.Dec.{leb, eqb}
 use lib.ListN.{length, replicate}
 use Rattle.shape.specs.Bytes.{every}
 use Rattle.slip.specs.Meaning.{seats, openings, steps}
-use Rattle.layout.specs.declared.rows.Head.{Head}
 use Rattle.layout.specs.declared.rows.Account.{Account}
 use Rattle.layout.specs.Rows.{headLong, headRow, accountRow, stepLong}
 use Rattle.layout.specs.Seat.{accounts, seatLong, roomLong, headOf, accountOf, seatOf}
