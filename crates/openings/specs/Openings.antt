@@ -6,11 +6,38 @@ use Prim.Native.Nat.{ℕ}
 use Prim.Native.String.{String}
 use Rattle.table.specs.declared.Kind.the-variants.{Pacs008, Pacs002}
 use Rattle.slip.specs.declared.Status.the-variants.{Accc, Rjct, Waits}
+use Rattle.layout.specs.declared.rows.Account.{Account}
+use Rattle.layout.specs.Seat.{seatOf, withSeat, withAccount}
+use Rattle.journal.specs.Steps.{noSettings}
 use Rattle.seat.specs.declared.settings.Limit.the-variants.{None}
-use Rattle.demands.specs.Calls.{set, takeBack, read, Call, under}
-use Rattle.demands.specs.Seats.{Answer}
+use Rattle.seat.specs.Fit.{openAccount}
+use Rattle.strike.specs.Strike.{events}
+use Rattle.centre.specs.Answers.{refused}
+use Rattle.demands.specs.Calls.{close, set, takeBack, read, Call, opening, under, callRoom, newRoom}
+use Rattle.demands.specs.Seats.{Answer, centre}
 use Rattle.cases.specs.Sheets.{liquidity}
-use Rattle.cases.specs.Cases.{Line, _gives_, Case, fromStart, values, ticket, from, slipped, morning, moves, accepted, rejected, wish, pays, accepts, played}
+use Rattle.cases.specs.Cases.{
+  directory,
+  Line,
+  _gives_,
+  Case,
+  values,
+  refusal,
+  begin,
+  ticket,
+  fromStart,
+  from,
+  slipped,
+  unslipped,
+  morning,
+  moves,
+  accepted,
+  rejected,
+  wish,
+  pays,
+  accepts,
+  played,
+}
 
 -- an account of an owner: opening sum, balance, turnover, blocks, LTK and LPO, which is 0 for none and n + 1 for n
 abbrev pub reads : ℕ → ℕ → Call
@@ -93,6 +120,36 @@ atSettling =
 abbrev pub table : List Case
 table = both ∷ received ∷ fromNothing ∷ setFirst ∷ atSettling ∷ []
 
--- the statement: played, every case gives the answers that stand beside its calls
-abbrev pub Openings : Type 0
-Openings = map played table ≡ map (λ (case : Case). case .answers) table
+-- the room of every case at its start; the same with the two accounts of 300001 put into it by hand; and so without their limits
+abbrev pub started : List ℕ
+started = callRoom directory begin newRoom
+
+abbrev pub withAccounts : (ℕ → Account) → List ℕ
+withAccounts account = withSeat started 3 (withAccount (withAccount (seatOf started 3) 0 (account 50000)) 1 (account 10000))
+
+abbrev pub unlimited : ℕ → Account
+unlimited sum = record { opening = sum; balance = sum; turnover = 0; settings = noSettings }
+
+abbrev pub former : List ℕ
+former = withAccounts unlimited
+
+-- whatever is called in that room is refused by 1, in another seat too
+abbrev pub inFormer : List Line
+inFormer =
+    opening 4 [] gives refusal 1
+    ∷ reads 300001 1 gives refusal 1
+    ∷ under ticket (set 300001 1 (wish 0 None)) gives refusal 1
+    ∷ moves "1" "1.00" gives unslipped (refused 1)
+    ∷ under ticket takeBack gives refusal 1
+    ∷ under ticket close gives refusal 1
+    ∷ []
+
+abbrev pub playedIn : List ℕ → List Line → List Answer
+playedIn room lines = map (λ (event : Call × Answer). event .1) (events (centre directory) (map (λ (line : Line). line .0) lines) room)
+
+-- the statement: played, every case gives the answers that stand beside its calls, and so do the calls in a room that was opened without limits,
+-- in which nothing but the limits is missing
+pub record Openings : Type 0 where
+  pub table-holds : map played table ≡ map (λ (case : Case). case .answers) table
+  pub as-opened : withAccounts openAccount ≡ started
+  pub former-unfit : playedIn former inFormer ≡ map (λ (line : Line). line .1) inFormer
