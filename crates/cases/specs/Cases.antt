@@ -24,7 +24,7 @@ use Rattle.seat.specs.declared.settings.Limit.the-variants.{Of}
 use Rattle.strike.specs.Strike.{events}
 use Rattle.centre.specs.declared.Ticket.{Ticket}
 use Rattle.centre.specs.Answers.{Told, done, refused, refusedWith}
-use Rattle.demands.specs.Calls.{close, set, submit, takeBack, read, Call, opening, under, writing, reading, newRoom}
+use Rattle.demands.specs.Calls.{close, set, submit, takeBack, read, Call, opening, under, writing, reading, callRoom, newRoom}
 use Rattle.demands.specs.Seats.{Answer, centre}
 use Rattle.cases.specs.Sheets.{camt050, pacs008, pacs028, pacs002}
 
@@ -59,6 +59,10 @@ refusal number = (refused number, [])
 -- seat 3 is opened with 500.00 and 100.00 for 300001, others are empty; it is the seat's first opening
 abbrev pub begin : Call
 begin = opening 3 (50000 ∷ 10000 ∷ 0 ∷ 0 ∷ 0 ∷ 0 ∷ 0 ∷ 0 ∷ [])
+
+-- the room after it
+abbrev pub started : List ℕ
+started = callRoom directory begin newRoom
 
 abbrev pub ticket : Ticket
 ticket = record { seat = 3; opening = 1 }
@@ -266,9 +270,13 @@ case11 =
 abbrev pub table : List Case
 table = case1 ++ case2 ++ case3 ++ case4 ++ case5 ++ case6 ++ case7 ++ case8 ++ case9 ++ case10 ++ case11
 
--- what the calls of a case answer, one after the other, from a room that was laid out
+-- what calls answer, one after the other, from a room on
+abbrev pub answersFrom : List Participant → List ℕ → List Call → List Answer
+answersFrom dir room calls = map (λ (event : Call × Answer). event .1) (events (centre dir) calls room)
+
+-- the calls of a case, from a room that was laid out
 abbrev pub played : Case → List Answer
-played case = map (λ (event : Call × Answer). event .1) (events (centre directory) (case .calls) newRoom)
+played case = answersFrom directory newRoom (case .calls)
 
 -- the statement: played, every case gives the answers that stand beside its calls
 abbrev pub Cases : Type 0

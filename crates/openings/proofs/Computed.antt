@@ -3,7 +3,7 @@
 use mathlib.Core.List.{map}
 use mathlib.Core.Path.{_≡_, refl}
 use Rattle.seat.specs.Fit.{openAccount}
-use Rattle.cases.specs.Cases.{Case, Line, played}
+use Rattle.cases.specs.Cases.{Case, Line, started, played}
 use Rattle.cases.proofs.Opened.{opened}
 use Rattle.openings.specs.Openings.{
   both,
@@ -12,7 +12,6 @@ use Rattle.openings.specs.Openings.{
   setFirst,
   atSettling,
   table,
-  started,
   withAccounts,
   former,
   inFormer,

@@ -11,10 +11,9 @@ use Rattle.layout.specs.Seat.{seatOf, withSeat, withAccount}
 use Rattle.journal.specs.Steps.{noSettings}
 use Rattle.seat.specs.declared.settings.Limit.the-variants.{None}
 use Rattle.seat.specs.Fit.{openAccount}
-use Rattle.strike.specs.Strike.{events}
 use Rattle.centre.specs.Answers.{refused}
-use Rattle.demands.specs.Calls.{close, set, takeBack, read, Call, opening, under, callRoom, newRoom}
-use Rattle.demands.specs.Seats.{Answer, centre}
+use Rattle.demands.specs.Calls.{close, set, takeBack, read, Call, opening, under}
+use Rattle.demands.specs.Seats.{Answer}
 use Rattle.cases.specs.Sheets.{liquidity}
 use Rattle.cases.specs.Cases.{
   directory,
@@ -23,7 +22,7 @@ use Rattle.cases.specs.Cases.{
   Case,
   values,
   refusal,
-  begin,
+  started,
   ticket,
   fromStart,
   from,
@@ -36,6 +35,7 @@ use Rattle.cases.specs.Cases.{
   wish,
   pays,
   accepts,
+  answersFrom,
   played,
 }
 
@@ -120,10 +120,7 @@ atSettling =
 abbrev pub table : List Case
 table = both ∷ received ∷ fromNothing ∷ setFirst ∷ atSettling ∷ []
 
--- the room of every case at its start; the same with the two accounts of 300001 put into it by hand; and so without their limits
-abbrev pub started : List ℕ
-started = callRoom directory begin newRoom
-
+-- the room of every case at its start, with the two accounts of 300001 put into it by hand; and so without their limits
 abbrev pub withAccounts : (ℕ → Account) → List ℕ
 withAccounts account = withSeat started 3 (withAccount (withAccount (seatOf started 3) 0 (account 50000)) 1 (account 10000))
 
@@ -145,7 +142,7 @@ inFormer =
     ∷ []
 
 abbrev pub playedIn : List ℕ → List Line → List Answer
-playedIn room lines = map (λ (event : Call × Answer). event .1) (events (centre directory) (map (λ (line : Line). line .0) lines) room)
+playedIn room lines = answersFrom directory room (map (λ (line : Line). line .0) lines)
 
 -- the statement: played, every case gives the answers that stand beside its calls, and so do the calls in a room that was opened without limits,
 -- in which nothing but the limits is missing

@@ -3,7 +3,7 @@
 use mathlib.Core.List.{List, [], _∷_}
 use mathlib.Core.Path.{_≡_, refl}
 use Prim.Native.Nat.{ℕ}
-use Rattle.cases.specs.Cases.{directory}
+use Rattle.cases.specs.Cases.{directory, started}
 use Rattle.cases.proofs.Opened.{opened}
 use Rattle.stages.specs.Stages.{
   settled,
@@ -23,7 +23,6 @@ use Rattle.stages.specs.Stages.{
   Holds,
   none,
   also,
-  started,
   Stages,
 }
 

@@ -11,11 +11,10 @@ use Rattle.slip.specs.declared.Status.the-variants.{Pdng, Accc, Rjct, Waits}
 use Rattle.directory.specs.declared.Participant.{Participant}
 use Rattle.directory.specs.declared.Kind.the-variants.{Owner}
 use Rattle.seat.specs.declared.settings.Limit.the-variants.{Of}
-use Rattle.strike.specs.Strike.{events}
-use Rattle.demands.specs.Calls.{set, takeBack, read, Call, under, callRoom, newRoom}
-use Rattle.demands.specs.Seats.{Answer, centre}
+use Rattle.demands.specs.Calls.{set, takeBack, read, Call, under, callRoom}
+use Rattle.demands.specs.Seats.{Answer}
 use Rattle.cases.specs.Sheets.{payment, pacs002, refusing}
-use Rattle.cases.specs.Cases.{directory, Line, _gives_, values, begin, ticket, from, slipped, morning, wish, pays, asks}
+use Rattle.cases.specs.Cases.{directory, Line, _gives_, values, started, ticket, from, slipped, morning, wish, pays, asks, answersFrom}
 
 -- a bank answers the payment, as its message with this digit
 abbrev pub accepts : ℕ → String → String → Call
@@ -161,17 +160,13 @@ roomAfter dir [] room = room
 roomAfter dir (call ∷ calls) room = roomAfter dir calls (callRoom dir call room)
 
 abbrev pub playedIn : Part → List ℕ → List Answer
-playedIn part room = map (λ (event : Call × Answer). event .1) (events (centre (part .dir)) (callsOf part) room)
+playedIn part room = answersFrom (part .dir) room (callsOf part)
 
 -- each part of a case, played from where the one before it left the room, gives the answers that stand beside its calls
 pub data Holds : List ℕ → List Part → Type 0 where
   none : (room : List ℕ) → Holds room []
   also : (room : List ℕ) (part : Part) (parts : List Part) → playedIn part room ≡ answersOf part
       → Holds (roomAfter (part .dir) (callsOf part) room) parts → Holds room (part ∷ parts)
-
--- the room of every case at its start
-abbrev pub started : List ℕ
-started = callRoom directory begin newRoom
 
 pub record Stages : Type 0 where
   pub settled-holds : Holds started settled
