@@ -102,7 +102,8 @@ layout-opened = tt
 
 unfoldable pub seat-opened : Unit {0}
 unfolding noTicket accountFound sumsGood pairGood limitNumber settingsOf openingLimit openingSettings accountNamed seatFits closedFits
-    closedSeat openFits openSeat sumsOf openAccounts roomFits sumsFrom same earliest waitsAs leaves firstIn isThere isKnown failsBy endsAs sentAs toldAs resultFits
+    closedSeat openFits openSeat sumsOf openAccounts roomFits sumsFrom same earliest waitsAs leaves firstIn isThere isKnown failsBy endsAs
+    sentAs toldAs resultFits
     answerFrom answerTo isAnswered waits resultIn resultNow sameMovement answerable availableBelow turnoverAbove
     blockedOut blockedInto turnoverShut stepFits noSet movementFits noMovement moves isWaiting closes sameSettings isStored noUetr uetrFits
     settingsFit between isMovement referenceFits receiverFits answersFits
