@@ -2,3 +2,4 @@
 // `proofs/CallsTied.antt`. There is no code here.
 // What stands in it is defined elsewhere: the calls in `demands`, the forms of results, arrays and directories in `damvurit`. It is a crate of
 // its own so that the library does not wait for the demands.
+#![tactic(auto)]

@@ -2,6 +2,7 @@
 // A refused call leaves the room and the slip buffer as they came. The answers and their numbers stand in `specs/Answers.antt`, the calls in
 // `specs/Calls.antt`, submit in `specs/Submit.antt`, the slip calls in `specs/Slips.antt`.
 // The calls that need a directory take it as a lent slice of records, or as it was gathered (`.._among`).
+#![tactic(auto)]
 
 mod calls;
 mod lent;
@@ -16,14 +17,14 @@ pub use slips::{read_slip, write_slip};
 pub use submit::submit_among;
 
 // A pupil's right to a seat: the seat, and the number of its opening.
-#[derive(Drop)]
+#[derive(Clone, Copy)]
 pub struct Ticket {
     pub seat: u64,
     pub opening: u64,
 }
 
 // How a call ends. Done, or done with an opening number, an account or a slip; or refused, some with the place, the field or the check.
-#[derive(Drop)]
+#[derive(Clone, Copy)]
 pub enum Answer {
     Done,
     Opened(u64),

@@ -11,7 +11,7 @@ const DIGITS: usize = 2 * SLIP_LONG;
 
 // The bytes of a text that are no blanks: the first twelve, and how many there are. A thirteenth is counted, so that the text is seen to be
 // too long; after it nothing changes any more.
-#[derive(Drop)]
+#[derive(Clone, Copy)]
 pub struct Ink {
     pub count: usize,
     pub bytes: [u8; DIGITS],

@@ -2,6 +2,8 @@
 // It adds no rule: each function brings a call's numbers into the centre's form, makes the call and hands on its answer. No function asks
 // anything of its caller but what C's types cannot say, that a pointer reaches as many elements as its length says.
 // A result is the call's number and 256 times its detail (`specs/Boundary.antt`); a directory is four numbers a record (`specs/Flat.antt`).
+#![tactic(auto)]
+
 mod flat;
 mod forms;
 

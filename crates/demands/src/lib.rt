@@ -3,3 +3,4 @@
 // Every line of `specs/Calls.antt` cites the definition that the contract of that call cites, so what is proved holds of the code itself.
 // `proofs/CallsTied.antt` proves that over the contracts.
 // That every call ends is not stated: the checker accepts no function that does not.
+#![tactic(auto)]

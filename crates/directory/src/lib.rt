@@ -2,6 +2,7 @@
 // All definitions are over the list of participants (`specs/Directory.antt`). The code goes through the lent list in two places only, which
 // find a code's record and gather the records for the test of fitness; everything else works on what was found. A code that may not be given
 // is looked up by the same search.
+#![tactic(auto)]
 
 ghost use Rattle.std.specs.Prelude.{◌≡◌, ◌<◌, ◌^◌, leb};
 ghost use Rattle.shape.specs.Bytes.{every};
@@ -17,7 +18,7 @@ pub const RECORDS_MOST: usize = 16;
 pub const CODE_MOST: u64 = 999999;
 
 // What a participant is: an owner of accounts, or a branch or provider, with the code of its head or serving bank.
-#[derive(Drop)]
+#[derive(Clone, Copy)]
 pub enum Kind {
     Owner,
     Direct(u64),
@@ -26,7 +27,7 @@ pub enum Kind {
 }
 
 // A record of the directory.
-#[derive(Drop)]
+#[derive(Clone, Copy)]
 pub struct Participant {
     pub code: u64,
     pub instant: bool,
@@ -34,14 +35,14 @@ pub struct Participant {
 }
 
 // The record of a code and its place in the list, or that there is none.
-#[derive(Drop)]
+#[derive(Clone, Copy)]
 pub enum Found {
     At(usize, Participant),
     Missing,
 }
 
 // The first records of a directory, as many as a fit one has, and how many it has in all.
-#[derive(Drop)]
+#[derive(Clone, Copy)]
 pub struct Gathered {
     pub count: usize,
     pub records: [Participant; RECORDS_MOST],

@@ -154,7 +154,7 @@ fn byte(high: u8, low: u8) -> u8 {
 }
 
 // The bytes that hexadecimal digits write, at most eight.
-#[derive(Drop)]
+#[derive(Clone, Copy)]
 struct Few {
     bytes: [u8; BUFFER_MOST],
     count: usize,

@@ -10,6 +10,8 @@
 //     dump SEAT                                             prints all that the seat holds
 // Behind a call stand the answer's number, its detail and its values, then the slip's buffer. Other lines are only printed.
 // The script stands in `stdin`, what it must give in `stdout`; both are written by `tests/drill.py`.
+#![tactic(auto)]
+
 mod calls;
 mod records;
 mod rows;

@@ -95,7 +95,7 @@ pub fn number(s: &[u8]) -> u64 {
 // How many numbers of a line are read: a seat, and the sums of one record more than a seat has places.
 const NUMBERS_MOST: usize = 1 + 2 * (PLACES + 1);
 
-#[derive(Drop)]
+#[derive(Clone, Copy)]
 pub struct Numbers {
     pub count: usize,
     pub values: [u64; NUMBERS_MOST],

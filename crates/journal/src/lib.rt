@@ -4,6 +4,7 @@
 // It knows nothing of when a seat is fit, nor of calls and messages. Steps stand in `specs/Steps.antt`, how they end in `specs/Results.antt`, which
 // answers which in `specs/Answers.antt`, what they do in `specs/Working.antt`, traces in `specs/Traces.antt`, blocks and limits in
 // `specs/Limits.antt`, and that sums fit their types in `specs/Low.antt`.
+#![tactic(auto)]
 
 mod answers;
 mod limits;

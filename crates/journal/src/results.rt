@@ -15,7 +15,7 @@ const RJCT: u64 = 2;
 pub const WAITS: u64 = 3;
 
 // A status and a check, by their numbers on a slip.
-#[derive(Drop)]
+#[derive(Clone, Copy)]
 pub struct Outcome {
     pub status: u64,
     pub check: u64,

@@ -12,7 +12,7 @@ use shape::stored::{Identifier, Uetr, same_identifier, same_uetr};
 
 // What is looked for: a message with a MsgId, a pacs.008 with it, a pacs.008 or camt.050 with a UETR, a pacs.008 that waits with a MsgId, one that
 // waits with it for the answer of a bank.
-#[derive(Drop)]
+#[derive(Clone, Copy)]
 pub enum Trace {
     Message(Identifier),
     Payment(Identifier),
@@ -22,7 +22,7 @@ pub enum Trace {
 }
 
 // The step that was found with its place in the journal, from 0 on, or that there is none.
-#[derive(Drop)]
+#[derive(Clone, Copy)]
 pub enum Earlier {
     Of(usize, Step),
     None,

@@ -14,7 +14,7 @@ use shape::value::Value;
 use table::Kind;
 
 // The debited and the credited account by their numbers in the seat, and the amount in kopecks.
-#[derive(Drop)]
+#[derive(Clone, Copy)]
 pub struct Movement {
     pub debit: Value,
     pub credit: Value,
@@ -22,7 +22,7 @@ pub struct Movement {
 }
 
 // What was found in the directory of the sender, of the agents and of the owners of the accounts that a message moves money between.
-#[derive(Drop)]
+#[derive(Clone, Copy)]
 pub struct Looked {
     // The sender's record.
     pub source: Found,
@@ -36,7 +36,7 @@ pub struct Looked {
 }
 
 // A message, who sent it and when, and what was found in the directory.
-#[derive(Drop)]
+#[derive(Clone, Copy)]
 pub struct Case {
     pub message: Message,
     pub sender: u64,

@@ -3,6 +3,7 @@
 // It knows a seat's accounts and journal through `seat` and `journal`, participants through `directory`, and changes nothing. What a check looks
 // at stands in `specs/Case.antt`, what a message asks of the directory in `specs/Records.antt`, the rows in `specs/Rows.antt`, the verdict and the
 // step in `specs/Verdict.antt`.
+#![tactic(auto)]
 
 mod accounts;
 mod case;

@@ -56,7 +56,7 @@ pub fn movement_in(c: Case, s: &[u64]) -> Movement
 }
 
 // An account, or that there is none.
-#[derive(Drop)]
+#[derive(Clone, Copy)]
 pub enum Holding {
     Of(Account),
     None,

@@ -10,7 +10,7 @@ use shape::value::Value;
 use table::Kind;
 
 // The codes by which a message asks the directory, each of which may not be given.
-#[derive(Drop)]
+#[derive(Clone, Copy)]
 pub struct Asked {
     pub kind: Kind,
     // InstgAgt, InstdAgt, DbtrAgt and CdtrAgt.

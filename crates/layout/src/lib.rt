@@ -1,5 +1,6 @@
 // The layout of a room: seats one after the other, and in each a head, accounts and steps. docs/LAYOUT.md has every number.
 // It knows where a number stands and nothing of what it should be. The rows stand in `specs/Rows.antt`, their places in `specs/Seat.antt`.
+#![tactic(auto)]
 
 pub mod rows;
 

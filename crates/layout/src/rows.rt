@@ -15,7 +15,7 @@ pub const STEP_LONG: usize = 31;
 pub const ANSWERS_AT: usize = 30;
 
 // A seat's head: how often it was opened, whether it is open (0 or 1), and how many steps its journal has.
-#[derive(Drop)]
+#[derive(Clone, Copy)]
 pub struct Head {
     pub opening: u64,
     pub opened: u64,
@@ -23,7 +23,7 @@ pub struct Head {
 }
 
 // What a set call gives: both blocks (0 or 1), LTK, and LPO as 0 for none and n + 1 for n.
-#[derive(Drop)]
+#[derive(Clone, Copy)]
 pub struct Settings {
     pub out: u64,
     pub into: u64,
@@ -32,7 +32,7 @@ pub struct Settings {
 }
 
 // An account, in kopecks.
-#[derive(Drop)]
+#[derive(Clone, Copy)]
 pub struct Account {
     pub opening: u64,
     pub balance: u64,
@@ -41,7 +41,7 @@ pub struct Account {
 }
 
 // A step of the journal. What its kind lacks is zero.
-#[derive(Drop)]
+#[derive(Clone, Copy)]
 pub struct Step {
     // 1 pacs.008, 2 camt.050, 3 pacs.028, 4 pacs.002, 5 a set; 0 for no step
     pub kind: u64,

@@ -3,6 +3,8 @@
 // directory.
 // How many records are lent stands in `specs/Lending.antt`: of a directory with more than there are places none, which is as unfit.
 // Nothing is decided here: the refusals and their order are the centre's.
+#![tactic(auto)]
+
 ghost use Rattle.std.specs.Prelude.{◌≡◌};
 ghost use Rattle.directory.specs.Gathering.{directory_in};
 ghost use Rattle.centre.specs.Answers.{told};

@@ -6,7 +6,7 @@ use slip::{SEATS, STEPS};
 
 // What is seen of the last step: its kind by number, the bank that is to answer it, and the number of the step that it answers. What it lacks is
 // zero, and so is all of it where there is no step.
-#[derive(Drop)]
+#[derive(Clone, Copy)]
 pub struct LastStep {
     pub kind: u64,
     pub receiver: u64,
@@ -14,7 +14,7 @@ pub struct LastStep {
 }
 
 // What is seen: zeros where there is no such seat.
-#[derive(Drop)]
+#[derive(Clone, Copy)]
 pub struct Sight {
     pub balances: [u64; ACCOUNTS],
     pub steps: u64,

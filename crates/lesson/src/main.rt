@@ -1,6 +1,8 @@
 // Plays a lesson: a class's script on standard input, a call a line, each answered in words after the line's number. A bad line is answered
 // with what was expected, and the lesson goes on. What the lines are stands in `script`, what they do in `class`, and the calls in `centre`,
 // each with its contract; this program goes through the lines and prints. `lessons/` has lessons, docs/TEACHERS.md says how to write one.
+#![tactic(auto)]
+
 mod accounts;
 mod done;
 mod expected;

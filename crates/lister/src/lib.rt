@@ -1,6 +1,7 @@
 // The listing of a sheet: what the program of that name prints, as bytes.
 // It stands on rows and knows nothing of messages. The rule stands in `specs/Printed.antt`, by the grammar, and in `specs/Listing.antt`, worked
 // out; what it means to write into a buffer that may be too short, in `specs/Writing.antt`.
+#![tactic(auto)]
 
 mod row;
 mod writer;
@@ -24,7 +25,7 @@ const LINE_MOST: usize = (NAME_MOST + 1) * DEPTH_MOST + 5 + 1 + TEXT_MOST + 1;
 pub const LISTING_MOST: usize = LINE_MOST * ELEMENT_MOST + 4 + 8;
 
 // The place behind the lines that were written, and how many texts the rows hold.
-#[derive(Drop)]
+#[derive(Clone, Copy)]
 struct Listed {
     to: usize,
     fields: usize,

@@ -9,7 +9,7 @@ use paths::NODES;
 use table::Kind;
 
 // What a field's text has to be.
-#[derive(Drop)]
+#[derive(Clone, Copy)]
 pub enum Shape {
     Identifier,
     Time,
@@ -25,7 +25,7 @@ pub enum Shape {
 }
 
 // Whether a field has a Ccy: none, any, or that of the hryvnia.
-#[derive(Drop)]
+#[derive(Clone, Copy)]
 pub enum Ccy {
     Absent,
     Any,
@@ -33,7 +33,7 @@ pub enum Ccy {
 }
 
 // A field: the node of its path, and what is asked of it.
-#[derive(Drop)]
+#[derive(Clone, Copy)]
 pub struct Entry {
     pub node: usize,
     pub optional: bool,
@@ -42,21 +42,21 @@ pub struct Entry {
 }
 
 // What the only element below the outer one names.
-#[derive(Drop)]
+#[derive(Clone, Copy)]
 pub enum Body {
     Of(Kind),
     Unknown,
 }
 
 // The numbers of an agent's two fields: which system lists it, and its code.
-#[derive(Drop)]
+#[derive(Clone, Copy)]
 pub struct AgentNumbers {
     pub system: usize,
     pub code: usize,
 }
 
 // The numbers of a kind's fields by what they say; 0 for a field that the kind lacks.
-#[derive(Drop)]
+#[derive(Clone, Copy)]
 pub struct Numbers {
     pub id: usize,
     pub created: usize,

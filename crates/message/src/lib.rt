@@ -2,6 +2,7 @@
 // It knows nothing of rooms, participants and checks. The tables of fields stand in `specs/Fields.antt`, what the rows of a sheet say in
 // `specs/Held.antt`, when a field is bad in `specs/Good.antt`, what a message is in `specs/Message.antt`, what a sheet is due as
 // an answer in `specs/Due.antt`, and how the answer is worked out in `specs/Received.antt`.
+#![tactic(auto)]
 
 mod fit;
 mod kinds;
@@ -33,21 +34,21 @@ use sheet::shown_at;
 use table::Kind;
 
 // A message identifier: as it is stored, and the code in front of it where it is a good one.
-#[derive(Drop)]
+#[derive(Clone, Copy)]
 pub struct Name {
     pub stored: Identifier,
     pub code: Value,
 }
 
 // An agent: which system lists it, and its code.
-#[derive(Drop)]
+#[derive(Clone, Copy)]
 pub struct Agent {
     pub system: System,
     pub code: Value,
 }
 
 // What a pacs.002 says of the transfer that it answers: it is accepted, declined as a technical refusal, or the client is not credited.
-#[derive(Drop)]
+#[derive(Clone, Copy)]
 pub enum Reply {
     NoReply,
     Accepts,
@@ -56,7 +57,7 @@ pub enum Reply {
 }
 
 // A message. A part that its kind lacks, and PrvsInstgAgt1 where it is not given, is None, Neither, NoIban, NoReply or zeros.
-#[derive(Drop)]
+#[derive(Clone, Copy)]
 pub struct Message {
     pub kind: Kind,
     // MsgId
@@ -92,7 +93,7 @@ pub struct Message {
 }
 
 // What a sheet is: refused by 7 with its place, refused by 8 with a field's number, or a message.
-#[derive(Drop)]
+#[derive(Clone, Copy)]
 pub enum Answer {
     IllFormed(usize),
     BadField(usize),
@@ -101,7 +102,7 @@ pub enum Answer {
 
 // The answer to a sheet and, of a message, where the text of each field starts and how long it is, by the field's number. At 0, behind the
 // kind's last field and for a field that is not given there are zeros.
-#[derive(Drop)]
+#[derive(Clone, Copy)]
 pub struct Received {
     pub answer: Answer,
     pub starts: [usize; FIELDS_MOST + 1],
@@ -109,7 +110,7 @@ pub struct Received {
 }
 
 // Where the texts of the fields stand.
-#[derive(Drop)]
+#[derive(Clone, Copy)]
 struct Spots {
     starts: [usize; FIELDS_MOST + 1],
     lengths: [usize; FIELDS_MOST + 1],

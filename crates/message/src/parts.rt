@@ -7,7 +7,7 @@ use outline::parts_at;
 use sheet::shown_at;
 
 // Where a text starts and how long it is.
-#[derive(Drop)]
+#[derive(Clone, Copy)]
 pub struct Spot {
     pub start: usize,
     pub length: usize,

@@ -18,7 +18,7 @@ use Rattle.sheet.specs.Reader.{while, next_in}
 use Rattle.sheet.specs.declared.reader.Ahead.{Ahead}
 use Rattle.sheet.specs.declared.reader.Ahead.TheVariants.{Text}
 use Rattle.sheet.specs.contracts.reader.Ahead.{the_type}
-use Rattle.sheet.proofs.Ahead.{text-told, no-text-told}
+use Rattle.sheet.proofs.Aheads.{text-told, no-text-told}
 use Rattle.sheet.proofs.While.{while-none}
 use Rattle.outline.specs.Rows.{name_at, name_end, has_ccy, inside_at, has_text}
 use Rattle.outline.specs.Places.{text_end, no_parts, parts_of}

@@ -2,6 +2,8 @@
 // rows and know nothing of trees.
 // The rows stand in `specs/Rows.antt`, the places that the code gives for them in `specs/Places.antt`; that on a well-formed sheet they are
 // the tree's is the theorem of `proofs/OfTree.antt`.
+#![tactic(auto)]
+
 ghost use Rattle.std.specs.Prelude.{◌≡◌, cond, ◌+◌, ◌-◌, ◌<◌, ◌^◌, ltb};
 ghost use Rattle.outline.specs.Rows.{name_at};
 ghost use Rattle.outline.specs.Places.{no_parts, parts_of};
@@ -11,7 +13,7 @@ use sheet::{Ahead, name_bytes_end, next_at};
 
 // Where the parts of an element stand: its name ends at `to`; its Ccy, if it has one, is the three bytes from `to + 6` on; its content begins
 // at `inside`; its text, if it has one, ends at `end`.
-#[derive(Drop)]
+#[derive(Clone, Copy)]
 pub struct Parts {
     pub to: usize,
     pub ccy: bool,

@@ -1,6 +1,7 @@
 // A survey of a sheet: of each path that a message may ask for, how often it stands in the sheet and where.
 // The sheet's elements are gone through once; a node of the tree of paths stands for each open element. It knows nothing of kinds and
 // shapes. The tree stands in `specs/Tree.antt`, the survey in `specs/Survey.antt`.
+#![tactic(auto)]
 
 mod tree;
 
@@ -16,7 +17,7 @@ use tree::{ABOVE, all_firsts, all_names, child};
 
 // What was seen of a sheet. Refused, it has its place and nothing else; accepted, the number of elements right below the outer one, and for
 // each node how often it stands and where it starts the last time.
-#[derive(Drop)]
+#[derive(Clone, Copy)]
 pub struct Standing {
     pub accepted: bool,
     pub place: usize,

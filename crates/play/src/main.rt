@@ -1,6 +1,8 @@
 // A small lesson in one seat of a room: open, set, record, take back, close, open. After each call it prints the answer's number, the
 // seat's head and what the four accounts of two owners hold: opening sum, balance, turnover, blocks, LTK, LPO.
 // The program only plays and prints; what each call does is proved in `seat`, what a step does in `journal`.
+#![tactic(auto)]
+
 ghost use Rattle.std.specs.Prelude.{◌≤◌, ◌≡◌, true};
 ghost use Rattle.directory.specs.Directory.{records_most};
 ghost use Rattle.seat.specs.Calls.{place_fits};

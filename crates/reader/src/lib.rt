@@ -1,6 +1,8 @@
 // The sheet's reader for C: one function that reads a sheet and answers with one number, for the measurements of `bench/`.
 // It does what `sheet::read` does and adds no rule. What the number means stands in `specs/Number.antt`.
 // Which number is wanted is known only when it is called, so the compiler cannot leave out any part of the reading: both lists are filled each time.
+#![tactic(auto)]
+
 ghost use Rattle.std.specs.Prelude.{◌≡◌};
 ghost use Rattle.sheet.specs.Answer.{reading_of};
 ghost use Rattle.reader.specs.Number.{number_at};

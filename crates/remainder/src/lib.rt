@@ -1,6 +1,8 @@
 // The remainder of an IBAN by ISO 7064 MOD 97-10, for check 34. The remainder of the number so far is carried from character to
 // character, so that no number longer than the machine's is ever made.
 // It knows nothing of messages; which IBANs are well shaped is said in `shape`. The rule stands in `specs/Remainder.antt`.
+#![tactic(auto)]
+
 ghost use Rattle.std.specs.Prelude.{◌≡◌, ◌<◌, ◌%◌, ◌-◌};
 ghost use Rattle.remainder.specs.Remainder.{modulus, written, written_all, remainder_of};
 
@@ -14,14 +16,14 @@ const MODULUS: u64 = 97;
 const CAPITAL_BASE: u8 = b'A' - 10;
 
 // What an IBAN leaves when its number is divided by 97.
-#[derive(Drop)]
+#[derive(Clone, Copy)]
 pub enum Mod97 {
     Of(u64),
     NoIban,
 }
 
 // The remainder of the number written so far.
-#[derive(Drop)]
+#[derive(Clone, Copy)]
 pub struct Carried {
     pub remainder: u64,
 }

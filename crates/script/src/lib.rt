@@ -1,6 +1,8 @@
 // A lesson is lines, and this reads one: its word and the values behind it, sums in kopecks, dates as numbers, yes and no as 1 and 0.
 // It knows nothing of rooms and calls: whether a date is real, or what stands behind slip is one, is the call's business.
 // The table of words stands in `specs/Words.antt`, what a word behind the first says in `specs/Said.antt`, a line in `specs/Lines.antt`.
+#![tactic(auto)]
+
 mod names;
 pub mod text;
 mod value;
@@ -18,7 +20,7 @@ use values::{Taken, values_of};
 pub const VALUES_MOST: usize = 35;
 
 // The words that a line begins with. Blank is a line that says nothing, Unknown one whose word is none of them.
-#[derive(Drop)]
+#[derive(Clone, Copy)]
 pub enum Word {
     Blank,
     Room,
@@ -39,7 +41,7 @@ pub enum Word {
 
 // A line: its word, whether all that it asks for stands there, the values in their order, and where the rest begins
 // (the sheet of a submit, the digits of a slip; else where reading stopped).
-#[derive(Drop)]
+#[derive(Clone, Copy)]
 pub struct Line {
     pub word: Word,
     pub good: bool,

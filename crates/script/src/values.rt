@@ -10,7 +10,7 @@ use crate::{VALUES_MOST, Word};
 use shape::value::Value;
 
 // What was taken: whether it is all that was wanted, how many values, the values, and where the next word begins.
-#[derive(Drop)]
+#[derive(Clone, Copy)]
 pub struct Taken {
     pub all: bool,
     pub count: usize,

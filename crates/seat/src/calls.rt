@@ -17,7 +17,7 @@ use shape::value::Value;
 use slip::{OPENINGS, STEPS};
 
 // How a call of a seat ends.
-#[derive(Drop)]
+#[derive(Clone, Copy)]
 pub enum Answer {
     Done,
     NoTicket,
@@ -247,7 +247,7 @@ pub fn set_account(
 }
 
 // What a read of an account gives.
-#[derive(Drop)]
+#[derive(Clone, Copy)]
 pub struct Reading {
     pub answer: Answer,
     pub account: Account,

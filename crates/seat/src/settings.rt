@@ -6,14 +6,14 @@ use journal::SUM_MOST;
 use layout::rows::Settings;
 
 // An account's LPO: none, or a limit in kopecks, which may be 0.
-#[derive(Drop)]
+#[derive(Clone, Copy)]
 pub enum Limit {
     None,
     Of(u64),
 }
 
 // What a set call gives an account: all four settings at once.
-#[derive(Drop)]
+#[derive(Clone, Copy)]
 pub struct Wish {
     pub out: bool,
     pub into: bool,

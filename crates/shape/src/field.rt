@@ -18,7 +18,7 @@ const AMOUNT_BYTES_MOST: usize = 14;
 pub const IDENTIFIER_MOST: usize = 35;
 
 // An account by its name: which of the two, whose, in which currency. A text that names none is all zeros: no currency is 0.
-#[derive(Drop)]
+#[derive(Clone, Copy)]
 pub struct Account {
     pub digit: u64,
     pub code: u64,
@@ -26,7 +26,7 @@ pub struct Account {
 }
 
 // S, the system that lists an agent.
-#[derive(Drop)]
+#[derive(Clone, Copy)]
 pub enum System {
     Sep,
     Asp,

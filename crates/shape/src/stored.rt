@@ -17,7 +17,7 @@ const HEX_VALUES: u64 = 1 << 4;
 const GROUP_VALUES: u64 = 1 << 16;
 
 // The 35 bytes of an identifier, seven to a number.
-#[derive(Drop)]
+#[derive(Clone, Copy)]
 pub struct Identifier {
     pub first: u64,
     pub second: u64,
@@ -27,7 +27,7 @@ pub struct Identifier {
 }
 
 // The 32 hexadecimal digits of a UETR, sixteen to a number.
-#[derive(Drop)]
+#[derive(Clone, Copy)]
 pub struct Uetr {
     pub high: u64,
     pub low: u64,
@@ -67,7 +67,7 @@ pub fn identifier_of(s: &[u8]) -> Identifier
 }
 
 // The text of a stored identifier: the 35 bytes of its numbers, and how many of them come before the first zero.
-#[derive(Drop)]
+#[derive(Clone, Copy)]
 pub struct Text {
     pub bytes: [u8; IDENTIFIER_MOST],
     pub length: usize,

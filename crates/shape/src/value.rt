@@ -1,5 +1,5 @@
 // What a text gives: a number, or nothing where the text has not the shape.
-#[derive(Drop)]
+#[derive(Clone, Copy)]
 pub enum Value {
     Of(u64),
     None,

@@ -1,5 +1,5 @@
 pub mod Acceptance
-pub mod Ahead
+pub mod Aheads
 pub mod Cases
 pub mod Children
 pub mod Descent

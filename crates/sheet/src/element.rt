@@ -7,7 +7,7 @@ use crate::{DEPTH_MOST, ELEMENT_MOST};
 use shape::byte::{is_text, peek};
 
 // How far reading an element came: behind it, with so many elements begun in all, or to the place of the refusal.
-#[derive(Drop)]
+#[derive(Clone, Copy)]
 pub struct Came {
     pub whole: bool,
     pub place: usize,

@@ -3,6 +3,7 @@
 // A `Reader` is a sheet and a place in it: what stands next there, and a field as that part of the sheet.
 // It knows nothing of messages. The grammar stands in `specs/Grammar.antt`, the reading byte by byte in `specs/Machine.antt` and
 // `specs/Answer.antt`, what stands at a place in `specs/Reader.antt`.
+#![tactic(auto)]
 
 mod element;
 mod parts;
@@ -32,7 +33,7 @@ pub const ELEMENT_MOST: usize = 256;
 pub const SHEET_MOST: usize = 8192;
 
 // A sheet that was read. Refused, it has its place and nothing else; accepted, the number of its elements, and for each its `<` and its depth.
-#[derive(Drop)]
+#[derive(Clone, Copy)]
 pub struct Sheet {
     pub accepted: bool,
     pub place: usize,

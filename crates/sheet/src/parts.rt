@@ -9,7 +9,7 @@ use crate::{NAME_MOST, TEXT_MOST};
 use shape::byte::{is_capital, is_digit, is_letter, is_text, peek};
 
 // How far reading came: to a place behind what was wanted, or to the place where it was refused.
-#[derive(Drop)]
+#[derive(Clone, Copy)]
 pub enum Went {
     To(usize),
     Stopped(usize),
@@ -110,7 +110,7 @@ pub fn closing(s: &[u8], at: usize, from: usize, to: usize) -> Went
 
 // An opening tag that was read from behind its `<`: where its name ends, whether it has a Ccy, and the place behind it; or, where none was
 // found, the place of the refusal.
-#[derive(Drop)]
+#[derive(Clone, Copy)]
 pub struct Tag {
     pub found: bool,
     pub to: usize,

@@ -10,14 +10,14 @@ use crate::parts::is_name_byte;
 use shape::byte::{is_letter, is_text, peek};
 
 // A sheet and a place in it.
-#[derive(Drop)]
+#[derive(Clone, Copy)]
 pub struct Reader<'a> {
     pub sheet: &'a [u8],
     pub place: usize,
 }
 
 // What stands at a place: an element that begins there, whose name ends at this place; a text, which ends there; or neither.
-#[derive(Drop)]
+#[derive(Clone, Copy)]
 pub enum Ahead {
     Element(usize),
     Text(usize),

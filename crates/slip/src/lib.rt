@@ -3,6 +3,8 @@
 // document 02.
 // Six bytes are written; five bytes, which lie in mark books, are read as well. It knows nothing of rooms.
 // The definitions stand in `specs/`: what a slip means in each form, its bits, and what the two calls answer.
+#![tactic(auto)]
+
 ghost use Rattle.std.specs.Prelude.{◌≡◌, ◌<◌, ◌≤◌, ◌^◌, length};
 ghost use Rattle.table.specs.Checks.{checks_most, is_in};
 ghost use Rattle.slip.specs.Meaning.{kind_number, status_number, slip_long, pacs008_checks, camt050_checks, pacs028_checks, pacs002_checks};
@@ -13,7 +15,7 @@ ghost use Rattle.slip.specs.Answers.{write_answer, write_after, read_answer};
 use table::{CHECKS_MOST, Kind};
 
 // How a message ended.
-#[derive(Drop)]
+#[derive(Clone, Copy)]
 pub enum Status {
     Pdng,
     Accc,
@@ -22,7 +24,7 @@ pub enum Status {
 }
 
 // The six values of a slip, as numbers.
-#[derive(Drop)]
+#[derive(Clone, Copy)]
 pub struct Slip {
     pub kind: u64,
     pub status: u64,
@@ -33,21 +35,21 @@ pub struct Slip {
 }
 
 // What writing a slip answers.
-#[derive(Drop)]
+#[derive(Clone, Copy)]
 pub enum Writing {
     Written,
     NotWritten,
 }
 
 // What reading a slip answers.
-#[derive(Drop)]
+#[derive(Clone, Copy)]
 pub enum Reading {
     Holds(Slip),
     NoSlip,
 }
 
 // The forms of a slip.
-#[derive(Drop)]
+#[derive(Clone, Copy)]
 pub enum Form {
     FiveBytes,
     SixBytes,

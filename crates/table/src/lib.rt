@@ -1,11 +1,13 @@
 // The 37 checks with their SEP and ISO codes, and the order in which the checks of each kind of message run: document 01, "The checks", and
 // request 9 of document 02. It knows nothing of when a check fails. The definitions stand in `specs/Checks.antt`; docs/CHECKS.md says what each check means.
+#![tactic(auto)]
+
 ghost use Rattle.std.specs.Prelude.{◌≡◌, [], ◌<◌, ◌≤◌, length, get_or};
 ghost use Rattle.table.specs.declared.Kind.TheVariants.{Pacs008, Camt050, Pacs028, Pacs002};
 ghost use Rattle.table.specs.Checks.{checks_most, checks, line_of, sep_of, iso_of, rejecting, order_of, is_in, runs};
 
 // The kinds of messages.
-#[derive(Drop)]
+#[derive(Clone, Copy)]
 pub enum Kind {
     Pacs008,
     Camt050,

@@ -1,6 +1,8 @@
 // Runs vectors from outside and prints what comes out, a line for each. A vector is a line of standard input: a word that says what is
 // asked, a blank, and the text. The vectors stand in `stdin`, what they must give in `stdout`.
 // The program only takes lines apart and prints; all that is asked is answered by the proved libraries.
+#![tactic(auto)]
+
 mod ask;
 mod messages;
 mod sheets;

@@ -9,7 +9,7 @@ use slip::{Reading, SLIP_LONG, Slip, Writing};
 const BUFFER_LONG: usize = SLIP_LONG + 2;
 
 // Bytes that a text of hexadecimal digits writes, at most eight.
-#[derive(Drop)]
+#[derive(Clone, Copy)]
 struct Few {
     bytes: [u8; 8],
     count: usize,

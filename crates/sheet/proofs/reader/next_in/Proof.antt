@@ -5,7 +5,7 @@ use native.Mathlib.Omega.{arith}
 use borrow.Author.Tests.{not-true, not-false}
 use Rattle.sheet.specs.declared.reader.Ahead.TheVariants.{Element, Text}
 use Rattle.sheet.proofs.Ends.{inside as in-sheet, text-inside}
-use Rattle.sheet.proofs.Ahead.{text-ahead, other-ahead, no-name-ahead, element-ahead}
+use Rattle.sheet.proofs.Aheads.{text-ahead, other-ahead, no-name-ahead, element-ahead}
 use borrow.Author.Rules.{rules}
 use Rattle.sheet.proofs.reader.next_in.Statement.{statement}
 use Rattle.sheet.proofs.reader.next_in.Tie as tie
