@@ -8,5 +8,5 @@ returns : tie.Need-returns
 unfolding is_capital
 returns c = refl
 
-pub is-capital-spec : {M : Type 1} → statement M
-is-capital-spec = tie.close (tie.spec returns)
+pub is_capital_spec : {M : Type 1} → statement M
+is_capital_spec = tie.close (tie.spec returns)

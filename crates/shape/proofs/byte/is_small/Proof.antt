@@ -8,5 +8,5 @@ returns : tie.Need-returns
 unfolding is_small
 returns c = refl
 
-pub is-small-spec : {M : Type 1} → statement M
-is-small-spec = tie.close (tie.spec returns)
+pub is_small_spec : {M : Type 1} → statement M
+is_small_spec = tie.close (tie.spec returns)

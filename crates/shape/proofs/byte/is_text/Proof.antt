@@ -8,5 +8,5 @@ returns : tie.Need-returns
 unfolding is_text
 returns c = refl
 
-pub is-text-spec : {M : Type 1} → statement M
-is-text-spec = tie.close (tie.spec returns)
+pub is_text_spec : {M : Type 1} → statement M
+is_text_spec = tie.close (tie.spec returns)

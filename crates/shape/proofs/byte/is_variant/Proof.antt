@@ -8,5 +8,5 @@ returns : tie.Need-returns
 unfolding is_variant
 returns c = refl
 
-pub is-variant-spec : {M : Type 1} → statement M
-is-variant-spec = tie.close (tie.spec returns)
+pub is_variant_spec : {M : Type 1} → statement M
+is_variant_spec = tie.close (tie.spec returns)

@@ -4,12 +4,12 @@ use borrow.Author.Rules.{rules}
 use Rattle.shape.proofs.date.is_date.Statement.{statement}
 use Rattle.shape.proofs.date.is_date.Tie as tie
 
-days-in-requires : tie.Need-days-in-requires
+days-in-requires : tie.Need-days_in-requires
 days-in-requires c κs = search rules
 
 returns : tie.Need-returns
 unfolding is_date
-returns c = rw c.days-in.ensures
+returns c = rw c.days_in.ensures
 
-pub is-date-spec : {M : Type 1} → statement M
-is-date-spec = tie.close (tie.spec days-in-requires returns)
+pub is_date_spec : {M : Type 1} → statement M
+is_date_spec = tie.close (tie.spec days-in-requires returns)

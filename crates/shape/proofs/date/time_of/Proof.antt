@@ -9,36 +9,32 @@ use borrow.Author.Rules.{rules}
 use Rattle.shape.proofs.date.time_of.Statement.{statement}
 use Rattle.shape.proofs.date.time_of.Tie as tie
 
-slice-aggregate-matches : tie.Need-slice-aggregate-matches
-slice-aggregate-matches c = search rules
-
 matches-requires : tie.Need-matches-requires
 matches-requires c κs = search rules
 
-returns : tie.Need-returns
+returns : tie.Need-returns-then-not-matches
 unfolding time_of time_pattern
-returns c = rw (sym c.before.matches.ensures ∙ not-true _ c.if1.true)
+returns c = rw (sym c.matches.ensures ∙ not-true _ c.if-not-matches.true-raw)
 
-time-number-requires : tie.Need-time-number-requires
+time-number-requires : tie.Need-time_number-n-requires
 unfolding time_pattern
-time-number-requires c κs = omega (arith, fits-length time_pattern c.before.before.before.before.args.s.now (sym c.before.matches.ensures ∙ not-false _ c.if1.false))
+time-number-requires c κs = omega (arith, fits-length time_pattern c.args.s.now (sym c.matches.ensures ∙ not-false _ c.if-not-matches.false-raw))
 
-is-time-requires : tie.Need-is-time-requires
+is-time-requires : tie.Need-is_time-requires
 is-time-requires c κs = search rules
 
-returns-2 : tie.Need-returns-2
+returns-2 : tie.Need-returns-then-is_time
 unfolding time_of time_pattern
-returns-2 c = rw (sym c.before.before.before.before.matches.ensures ∙ not-false _ c.before.before.before.if1.false, ← c.before.before.time-number.ensures, sym c.before.is-time.ensures ∙ c.if2.true)
+returns-2 c = rw (sym c.matches.ensures ∙ not-false _ c.if-not-matches.false-raw, ← c.time_number-n.ensures, sym c.is_time.ensures ∙ c.if-is_time.true)
 
-returns-3 : tie.Need-returns-3
+returns-3 : tie.Need-returns
 unfolding time_of time_pattern
-returns-3 c = rw (sym c.before.before.before.before.matches.ensures ∙ not-false _ c.before.before.before.if1.false, ← c.before.before.time-number.ensures, sym c.before.is-time.ensures ∙ c.if2.false)
+returns-3 c = rw (sym c.matches.ensures ∙ not-false _ c.if-not-matches.false-raw, ← c.time_number-n.ensures, sym c.is_time.ensures ∙ c.if-is_time.false)
 
-pub time-of-spec : {M : Type 1} → statement M
-time-of-spec =
+pub time_of_spec : {M : Type 1} → statement M
+time_of_spec =
     tie.close
     (tie.spec
-    slice-aggregate-matches
     matches-requires
     returns
     time-number-requires

@@ -10,62 +10,58 @@ use borrow.Author.Rules.{rules}
 use Rattle.shape.proofs.field.account_of.Statement.{statement}
 use Rattle.shape.proofs.field.account_of.Tie as tie
 
-slice-aggregate-matches : tie.Need-slice-aggregate-matches
-slice-aggregate-matches c = search rules
-
 matches-requires : tie.Need-matches-requires
 matches-requires c κs = search rules
 
-shared-slice-read-digit-value : tie.Need-shared-slice-read-digit-value
+shared-slice-read-digit-value : tie.Need-bounds-s-0
 unfolding account_pattern
-shared-slice-read-digit-value c = omega (arith, fits-length account_pattern c.before.before.before.before.before.args.s.now (sym c.before.before.matches.ensures ∙ c.before.if1.true))
+shared-slice-read-digit-value c = omega (arith, fits-length account_pattern c.args.s.now (sym c.matches.ensures ∙ c.if-matches.true))
 
-digit-value-requires : tie.Need-digit-value-requires
+digit-value-requires : tie.Need-digit_value-requires
 digit-value-requires c κs = search rules
 
-cast-t9 : tie.Need-overflow-cast-t9
+cast-t9 : tie.Need-overflow_cast-result
 cast-t9 c = search rules
 
-sub-decimal : tie.Need-overflow-sub-decimal
+sub-decimal : tie.Need-slice_bounds-decimal-count
 sub-decimal c = search rules
 
-part-decimal-start : tie.Need-slice-bounds-decimal-start
+part-decimal-start : tie.Need-slice_bounds-decimal-start
 part-decimal-start c = search rules
 
-part-decimal-end : tie.Need-slice-bounds-decimal-end
+part-decimal-end : tie.Need-slice_bounds-decimal-end
 unfolding account_pattern
-part-decimal-end c = omega (arith, fits-length account_pattern c.before.before.before.before.before.before.args.s.now (sym c.before.before.before.matches.ensures ∙ c.before.before.if1.true))
+part-decimal-end c = omega (arith, fits-length account_pattern c.args.s.now (sym c.matches.ensures ∙ c.if-matches.true))
 
 decimal-requires : tie.Need-decimal-requires
 decimal-requires c κs = search rules
 
-sub-three-bytes : tie.Need-overflow-sub-three-bytes
+sub-three-bytes : tie.Need-slice_bounds-three_bytes-count
 unfolding account_pattern
-sub-three-bytes c = omega (arith, fits-length account_pattern c.before.before.before.before.before.before.before.before.args.s.now (sym c.before.before.before.before.before.matches.ensures ∙ c.before.before.before.before.if1.true))
+sub-three-bytes c = omega (arith, fits-length account_pattern c.args.s.now (sym c.matches.ensures ∙ c.if-matches.true))
 
-part-three-bytes-start : tie.Need-slice-bounds-three-bytes-start
+part-three-bytes-start : tie.Need-slice_bounds-three_bytes-start
 unfolding account_pattern
-part-three-bytes-start c = omega (arith, fits-length account_pattern c.before.before.before.before.before.before.before.before.args.s.now (sym c.before.before.before.before.before.matches.ensures ∙ c.before.before.before.before.if1.true))
+part-three-bytes-start c = omega (arith, fits-length account_pattern c.args.s.now (sym c.matches.ensures ∙ c.if-matches.true))
 
-part-three-bytes-end : tie.Need-slice-bounds-three-bytes-end
+part-three-bytes-end : tie.Need-slice_bounds-three_bytes-end
 part-three-bytes-end c = search rules
 
-three-bytes-requires : tie.Need-three-bytes-requires
+three-bytes-requires : tie.Need-three_bytes-requires
 three-bytes-requires c κs = search rules
 
-returns : tie.Need-returns
+returns : tie.Need-returns-then-matches
 unfolding account_of account_pattern
-returns c = rw (sym c.before.before.before.before.before.before.before.matches.ensures ∙ c.before.before.before.before.before.before.if1.true, c.before.before.before.before.digit_value.ensures, c.before.before.decimal.ensures.0, c.three-bytes.ensures, rest 7 c.before.before.before.before.before.before.before.before.before.before.args.s.now)
+returns c = rw (sym c.matches.ensures ∙ c.if-matches.true, c.digit_value.ensures, c.decimal.ensures.0, c.three_bytes.ensures, rest 7 c.args.s.now)
 
-returns-2 : tie.Need-returns-2
+returns-2 : tie.Need-returns
 unfolding account_of account_pattern
-returns-2 c = rw (sym c.before.matches.ensures ∙ c.if1.false)
+returns-2 c = rw (sym c.matches.ensures ∙ c.if-matches.false)
 
-pub account-of-spec : {M : Type 1} → statement M
-account-of-spec =
+pub account_of_spec : {M : Type 1} → statement M
+account_of_spec =
     tie.close
     (tie.spec
-    slice-aggregate-matches
     matches-requires
     shared-slice-read-digit-value
     digit-value-requires

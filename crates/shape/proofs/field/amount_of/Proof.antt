@@ -8,19 +8,19 @@ use borrow.Author.Rules.{rules}
 use Rattle.shape.proofs.field.amount_of.Statement.{statement}
 use Rattle.shape.proofs.field.amount_of.Tie as tie
 
-is-amount-requires : tie.Need-is-amount-requires
+is-amount-requires : tie.Need-is_amount-requires
 is-amount-requires c κs = search rules
 
 kopecks-requires : tie.Need-kopecks-requires
-kopecks-requires c κs = amount-length c.before.before.before.args.s.now (sym c.before.is-amount.ensures ∙ c.if1.true)
+kopecks-requires c κs = amount-length c.args.s.now (sym c.is_amount.ensures ∙ c.if-is_amount.true)
 
-returns : tie.Need-returns
+returns : tie.Need-returns-then-is_amount
 unfolding amount_of
-returns c = rw (sym c.before.before.is-amount.ensures ∙ c.before.if1.true, c.kopecks.ensures)
+returns c = rw (sym c.is_amount.ensures ∙ c.if-is_amount.true, c.kopecks.ensures)
 
-returns-2 : tie.Need-returns-2
+returns-2 : tie.Need-returns
 unfolding amount_of
-returns-2 c = rw (sym c.before.is-amount.ensures ∙ c.if1.false)
+returns-2 c = rw (sym c.is_amount.ensures ∙ c.if-is_amount.false)
 
-pub amount-of-spec : {M : Type 1} → statement M
-amount-of-spec = tie.close (tie.spec is-amount-requires kopecks-requires returns returns-2)
+pub amount_of_spec : {M : Type 1} → statement M
+amount_of_spec = tie.close (tie.spec is-amount-requires kopecks-requires returns returns-2)

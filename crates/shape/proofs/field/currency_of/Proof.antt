@@ -6,24 +6,25 @@ use borrow.Author.Rules.{rules}
 use Rattle.shape.proofs.field.currency_of.Statement.{statement}
 use Rattle.shape.proofs.field.currency_of.Tie as tie
 
-slice-aggregate-matches : tie.Need-slice-aggregate-matches
-slice-aggregate-matches c = search rules
-
 matches-requires : tie.Need-matches-requires
 matches-requires c κs = search rules
 
-three-bytes-requires : tie.Need-three-bytes-requires
+three-bytes-requires : tie.Need-three_bytes-requires
 three-bytes-requires c κs = search rules
 
-returns : tie.Need-returns
+returns : tie.Need-returns-then-matches
 unfolding currency_of currency_pattern
-returns c = rw (sym c.before.before.matches.ensures ∙ c.before.if1.true, c.three-bytes.ensures)
+returns c = rw (sym c.matches.ensures ∙ c.if-matches.true, c.three_bytes.ensures)
 
-returns-2 : tie.Need-returns-2
+returns-2 : tie.Need-returns
 unfolding currency_of currency_pattern
-returns-2 c = rw (sym c.before.matches.ensures ∙ c.if1.false)
+returns-2 c = rw (sym c.matches.ensures ∙ c.if-matches.false)
 
-pub currency-of-spec : {M : Type 1} → statement M
-currency-of-spec =
+pub currency_of_spec : {M : Type 1} → statement M
+currency_of_spec =
     tie.close
-    (tie.spec slice-aggregate-matches matches-requires three-bytes-requires returns returns-2)
+    (tie.spec
+    matches-requires
+    three-bytes-requires
+    returns
+    returns-2)

@@ -5,9 +5,6 @@ use borrow.Author.Rules.{rules}
 use Rattle.shape.proofs.field.is_iban.Statement.{statement}
 use Rattle.shape.proofs.field.is_iban.Tie as tie
 
-slice-aggregate-matches : tie.Need-slice-aggregate-matches
-slice-aggregate-matches c = search rules
-
 matches-requires : tie.Need-matches-requires
 matches-requires c κs = search rules
 
@@ -15,5 +12,7 @@ returns : tie.Need-returns
 unfolding is_iban iban_pattern
 returns c = c.matches.ensures
 
-pub is-iban-spec : {M : Type 1} → statement M
-is-iban-spec = tie.close (tie.spec slice-aggregate-matches matches-requires returns)
+pub is_iban_spec : {M : Type 1} → statement M
+is_iban_spec = tie.close (tie.spec
+    matches-requires
+    returns)

@@ -5,12 +5,12 @@ use borrow.Author.Rules.{rules}
 use Rattle.shape.proofs.field.is_identifier.Statement.{statement}
 use Rattle.shape.proofs.field.is_identifier.Tie as tie
 
-all-within-requires : tie.Need-all-within-requires
+all-within-requires : tie.Need-all_within-requires
 all-within-requires c κs = search rules
 
 returns : tie.Need-returns
 unfolding is_identifier within
-returns c = rw c.all-within.ensures
+returns c = rw c.all_within.ensures
 
-pub is-identifier-spec : {M : Type 1} → statement M
-is-identifier-spec = tie.close (tie.spec all-within-requires returns)
+pub is_identifier_spec : {M : Type 1} → statement M
+is_identifier_spec = tie.close (tie.spec all-within-requires returns)

@@ -9,42 +9,42 @@ use borrow.Author.Rules.{rules}
 use Rattle.shape.proofs.field.kopecks.Statement.{statement}
 use Rattle.shape.proofs.field.kopecks.Tie as tie
 
-sub-units : tie.Need-overflow-sub-units
+sub-units : tie.Need-overflow_sub-units
 sub-units c = search rules
 
-sub-cents : tie.Need-overflow-sub-cents
+sub-cents : tie.Need-overflow_sub-cents
 sub-cents c = search rules
 
-slice-aggregate-decimal : tie.Need-slice-aggregate-decimal
+slice-aggregate-decimal : tie.Need-slice_bounds-decimal-end
 slice-aggregate-decimal c = simp length-take (omega arith)
 
 decimal-requires : tie.Need-decimal-requires
 decimal-requires c κs = simp length-take (omega arith)
 
-mul-result : tie.Need-overflow-mul-result
+mul-result : tie.Need-overflow_mul-result
 mul-result c = search rules
 
-sub-decimal : tie.Need-overflow-sub-decimal
+sub-decimal : tie.Need-slice_bounds-decimal-count
 sub-decimal c = search rules
 
-part-decimal-start : tie.Need-slice-bounds-decimal-start
+part-decimal-start : tie.Need-slice_bounds-decimal-start
 part-decimal-start c = search rules
 
-part-decimal-end : tie.Need-slice-bounds-decimal-end
+part-decimal-end : tie.Need-slice_bounds-decimal-end-2
 part-decimal-end c = search rules
 
 decimal-requires-2 : tie.Need-decimal-requires-2
 decimal-requires-2 c κs = search rules
 
-add-result : tie.Need-overflow-add-result
+add-result : tie.Need-overflow_add-result
 add-result c = search rules
 
 returns : tie.Need-returns
 unfolding kopecks
-returns c = rw (c.before.before.decimal.ensures.0, c.decimal2.ensures.0, rest (length c.before.before.before.before.before.args.s.now - 2) c.before.before.before.before.before.args.s.now)
+returns c = rw (c.decimal.ensures.0, c.decimal-2.ensures.0, rest (length c.args.s.now - 2) c.args.s.now)
 
-pub kopecks-spec : {M : Type 1} → statement M
-kopecks-spec =
+pub kopecks_spec : {M : Type 1} → statement M
+kopecks_spec =
     tie.close
     (tie.spec
     sub-units

@@ -10,52 +10,48 @@ use borrow.Author.Rules.{rules}
 use Rattle.shape.proofs.field.message_code_of.Statement.{statement}
 use Rattle.shape.proofs.field.message_code_of.Tie as tie
 
-slice-aggregate-matches : tie.Need-slice-aggregate-matches
-slice-aggregate-matches c = search rules
-
 matches-requires : tie.Need-matches-requires
 matches-requires c κs = search rules
 
-returns : tie.Need-returns
+returns : tie.Need-returns-then-not-matches
 unfolding message_code_of message_pattern
-returns c = rw (sym c.before.matches.ensures ∙ not-true _ c.if1.true)
+returns c = rw (sym c.matches.ensures ∙ not-true _ c.if-not-matches.true-raw)
 
-sub-decimal : tie.Need-overflow-sub-decimal
+sub-decimal : tie.Need-slice_bounds-decimal-count
 sub-decimal c = search rules
 
-part-decimal-start : tie.Need-slice-bounds-decimal-start
+part-decimal-start : tie.Need-slice_bounds-decimal-start
 part-decimal-start c = search rules
 
-part-decimal-end : tie.Need-slice-bounds-decimal-end
+part-decimal-end : tie.Need-slice_bounds-decimal-end
 unfolding message_pattern
-part-decimal-end c = omega (arith, fits-length message_pattern c.before.before.before.before.args.s.now (sym c.before.matches.ensures ∙ not-false _ c.if1.false))
+part-decimal-end c = omega (arith, fits-length message_pattern c.args.s.now (sym c.matches.ensures ∙ not-false _ c.if-not-matches.false-raw))
 
 decimal-requires : tie.Need-decimal-requires
 decimal-requires c κs = search rules
 
-is-date-requires : tie.Need-is-date-requires
+is-date-requires : tie.Need-is_date-requires
 is-date-requires c κs = search rules
 
-slice-aggregate-decimal : tie.Need-slice-aggregate-decimal
+slice-aggregate-decimal : tie.Need-slice_bounds-decimal-end-then-is_date
 unfolding message_pattern
-slice-aggregate-decimal c = simp length-take (omega (arith, fits-length message_pattern c.before.before.before.before.before.before.before.before.before.args.s.now (sym c.before.before.before.before.before.before.matches.ensures ∙ not-false _ c.before.before.before.before.before.if1.false)))
+slice-aggregate-decimal c = simp length-take (omega (arith, fits-length message_pattern c.args.s.now (sym c.matches.ensures ∙ not-false _ c.if-not-matches.false-raw)))
 
-decimal-requires-2 : tie.Need-decimal-requires-2
+decimal-requires-2 : tie.Need-decimal-requires-then-is_date
 decimal-requires-2 c κs = simp length-take (omega arith)
 
-returns-2 : tie.Need-returns-2
+returns-2 : tie.Need-returns-then-is_date
 unfolding message_code_of message_pattern
-returns-2 c = rw (sym c.before.before.before.before.before.before.before.matches.ensures ∙ not-false _ c.before.before.before.before.before.before.if1.false, c.decimal2.ensures.0, ← c.before.before.before.before.decimal.ensures.0, sym c.before.before.before.is-date.ensures ∙ c.before.before.if2.true)
+returns-2 c = rw (sym c.matches.ensures ∙ not-false _ c.if-not-matches.false-raw, c.decimal-then-is_date.ensures.0, ← c.decimal.ensures.0, sym c.is_date.ensures ∙ c.if-is_date.true)
 
-returns-3 : tie.Need-returns-3
+returns-3 : tie.Need-returns
 unfolding message_code_of message_pattern
-returns-3 c = rw (sym c.before.before.before.before.before.matches.ensures ∙ not-false _ c.before.before.before.before.if1.false, ← c.before.before.decimal.ensures.0, sym c.before.is-date.ensures ∙ c.if2.false)
+returns-3 c = rw (sym c.matches.ensures ∙ not-false _ c.if-not-matches.false-raw, ← c.decimal.ensures.0, sym c.is_date.ensures ∙ c.if-is_date.false)
 
-pub message-code-of-spec : {M : Type 1} → statement M
-message-code-of-spec =
+pub message_code_of_spec : {M : Type 1} → statement M
+message_code_of_spec =
     tie.close
     (tie.spec
-    slice-aggregate-matches
     matches-requires
     returns
     sub-decimal

@@ -6,38 +6,30 @@ use borrow.Author.Rules.{rules}
 use Rattle.shape.proofs.field.system_of.Statement.{statement}
 use Rattle.shape.proofs.field.system_of.Tie as tie
 
-slice-aggregate-matches : tie.Need-slice-aggregate-matches
-slice-aggregate-matches c = search rules
-
 matches-requires : tie.Need-matches-requires
 matches-requires c κs = search rules
 
-returns : tie.Need-returns
+returns : tie.Need-returns-then-matches
 unfolding system_of sep_pattern asp_pattern
-returns c = rw (sym c.before.matches.ensures ∙ c.if1.true)
-
-slice-aggregate-matches-2 : tie.Need-slice-aggregate-matches-2
-slice-aggregate-matches-2 c = search rules
+returns c = rw (sym c.matches.ensures ∙ c.if-matches.true)
 
 matches-requires-2 : tie.Need-matches-requires-2
 matches-requires-2 c κs = search rules
 
-returns-2 : tie.Need-returns-2
+returns-2 : tie.Need-returns-then-matches-2
 unfolding system_of sep_pattern asp_pattern
-returns-2 c = rw (sym c.before.before.before.before.matches.ensures ∙ c.before.before.before.if1.false, sym c.before.matches2.ensures ∙ c.if2.true)
+returns-2 c = rw (sym c.matches.ensures ∙ c.if-matches.false, sym c.matches-2.ensures ∙ c.if-matches-2.true)
 
-returns-3 : tie.Need-returns-3
+returns-3 : tie.Need-returns
 unfolding system_of sep_pattern asp_pattern
-returns-3 c = rw (sym c.before.before.before.before.matches.ensures ∙ c.before.before.before.if1.false, sym c.before.matches2.ensures ∙ c.if2.false)
+returns-3 c = rw (sym c.matches.ensures ∙ c.if-matches.false, sym c.matches-2.ensures ∙ c.if-matches-2.false)
 
-pub system-of-spec : {M : Type 1} → statement M
-system-of-spec =
+pub system_of_spec : {M : Type 1} → statement M
+system_of_spec =
     tie.close
     (tie.spec
-    slice-aggregate-matches
     matches-requires
     returns
-    slice-aggregate-matches-2
     matches-requires-2
     returns-2
     returns-3)

@@ -8,53 +8,53 @@ use Rattle.shape.proofs.Loops.{decimal-turn, decimal-end, decimal-more, decimal-
 use Rattle.shape.proofs.number.decimal.Statement.{statement}
 use Rattle.shape.proofs.number.decimal.Tie as tie
 
-abbrev invariant-loop : tie.invariant-loop
-invariant-loop s n₀ i₀ n i = (i ≤ length s) × (decimal s ≡ decimal_from n (drop i s)) × (n + 23 ≤ 23 * 10 ^ i)
+abbrev invariant-loop-i : tie.invariant-loop-i
+invariant-loop-i s n₀ i₀ n i = (i ≤ length s) × (decimal s ≡ decimal_from n (drop i s)) × (n + 23 ≤ 23 * 10 ^ i)
 
-abbrev decreases-loop : tie.decreases-loop
-decreases-loop s n₀ i₀ n i = length s - i
+abbrev decreases-loop-i : tie.decreases-loop-i
+decreases-loop-i s n₀ i₀ n i = length s - i
 
-loop-holds : tie.Need-loop-init invariant-loop decreases-loop
+loop-holds : tie.Need-loop-i-init invariant-loop-i decreases-loop-i
 unfolding decimal
 loop-holds c = (omega arith, refl, omega arith)
 
-mul-n : tie.Need-overflow-mul-n invariant-loop decreases-loop
-mul-n c = omega (arith, decimal-small c.before.loop.i c.before.loop.n (omega arith) c.before.loop.invariant.2)
+mul-n : tie.Need-overflow_mul-n invariant-loop-i decreases-loop-i
+mul-n c = omega (arith, decimal-small c.loop-i.i c.loop-i.n (omega arith) c.loop-i.invariant.2)
 
-shared-slice-read-digit-value : tie.Need-shared-slice-read-digit-value invariant-loop decreases-loop
+shared-slice-read-digit-value : tie.Need-bounds-s-i invariant-loop-i decreases-loop-i
 shared-slice-read-digit-value c = omega arith
 
-digit-value-requires : tie.Need-digit-value-requires invariant-loop decreases-loop
+digit-value-requires : tie.Need-digit_value-requires invariant-loop-i decreases-loop-i
 digit-value-requires c κs = tt
 
-cast-n : tie.Need-overflow-cast-n invariant-loop decreases-loop
+cast-n : tie.Need-overflow_cast-n invariant-loop-i decreases-loop-i
 cast-n c = omega arith
 
-add-n : tie.Need-overflow-add-n invariant-loop decreases-loop
-add-n c = omega (arith, decimal-small c.before.before.before.loop.i c.before.before.before.loop.n (omega arith) c.before.before.before.loop.invariant.2)
+add-n : tie.Need-overflow_add-n invariant-loop-i decreases-loop-i
+add-n c = omega (arith, decimal-small c.loop-i.i c.loop-i.n (omega arith) c.loop-i.invariant.2)
 
-add-i : tie.Need-overflow-add-i invariant-loop decreases-loop
+add-i : tie.Need-overflow_add-i invariant-loop-i decreases-loop-i
 add-i c = omega arith
 
-loop-less : tie.Need-loop-smaller invariant-loop decreases-loop
+loop-less : tie.Need-loop-i-smaller invariant-loop-i decreases-loop-i
 loop-less c = omega arith
 
-loop-again : tie.Need-loop-preserved invariant-loop decreases-loop
+loop-again : tie.Need-loop-i-preserved invariant-loop-i decreases-loop-i
 loop-again c = (
   omega arith,
-  c.before.before.before.loop.invariant.1 ∙ decimal-turn c.before.before.before.before.before.args.s.now c.before.before.before.loop.i c.before.before.before.loop.n (omega arith) ∙ rw c.digit_value.ensures,
-  decimal-more c.before.before.before.loop.i c.before.before.before.loop.n c.digit_value.result c.before.before.before.loop.invariant.2 (omega (arith, c.digit_value.ensures, c.before.shared-slice-known2.given c.before.before.before.loop.i)),
+  c.loop-i.invariant.1 ∙ decimal-turn c.args.s.now c.loop-i.i c.loop-i.n (omega arith) ∙ rw c.digit_value.ensures,
+  decimal-more c.loop-i.i c.loop-i.n c.digit_value.result c.loop-i.invariant.2 (omega (arith, c.digit_value.ensures, c.shared_slice_known-in-loop-i-1.given c.loop-i.i)),
 )
 
-returns : tie.Need-returns invariant-loop decreases-loop
-returns c = (sym (c.before.loop.invariant.1 ∙ decimal-end c.before.before.before.args.s.now c.before.loop.i c.before.loop.n (omega arith)), decimal-small c.before.loop.i c.before.loop.n (omega arith) c.before.loop.invariant.2)
+returns : tie.Need-returns invariant-loop-i decreases-loop-i
+returns c = (sym (c.loop-i.invariant.1 ∙ decimal-end c.args.s.now c.loop-i.i c.loop-i.n (omega arith)), decimal-small c.loop-i.i c.loop-i.n (omega arith) c.loop-i.invariant.2)
 
-pub decimal-spec : {M : Type 1} → statement M
-decimal-spec =
+pub decimal_spec : {M : Type 1} → statement M
+decimal_spec =
     tie.close
     (tie.spec
-    invariant-loop
-    decreases-loop
+    invariant-loop-i
+    decreases-loop-i
     loop-holds
     mul-n
     shared-slice-read-digit-value

@@ -9,48 +9,48 @@ use Rattle.shape.proofs.Loops.{unlike, fits-hit, fits-miss, fits-end}
 use Rattle.shape.proofs.pattern.matches.Statement.{statement}
 use Rattle.shape.proofs.pattern.matches.Tie as tie
 
-abbrev invariant-loop : tie.invariant-loop
-invariant-loop pattern s i₀ i = (length pattern ≡ length s) × (i ≤ length s) × (fits pattern s ≡ fits (drop i pattern) (drop i s))
+abbrev invariant-loop-i : tie.invariant-loop-i
+invariant-loop-i pattern s i₀ i = (length pattern ≡ length s) × (i ≤ length s) × (fits pattern s ≡ fits (drop i pattern) (drop i s))
 
-abbrev decreases-loop : tie.decreases-loop
-decreases-loop pattern s i₀ i = length s - i
+abbrev decreases-loop-i : tie.decreases-loop-i
+decreases-loop-i pattern s i₀ i = length s - i
 
-returns : tie.Need-returns invariant-loop decreases-loop
-returns c = sym (unlike _ _ c.if1.true)
+returns : tie.Need-returns-then-pattern-s invariant-loop-i decreases-loop-i
+returns c = sym (unlike _ _ c.if-pattern-s.true)
 
-loop-holds : tie.Need-loop-init invariant-loop decreases-loop
+loop-holds : tie.Need-loop-i-init invariant-loop-i decreases-loop-i
 loop-holds c = (omega arith, omega arith, refl)
 
-shared-slice-read-is-within : tie.Need-shared-slice-read-is-within invariant-loop decreases-loop
+shared-slice-read-is-within : tie.Need-bounds-pattern-i invariant-loop-i decreases-loop-i
 shared-slice-read-is-within c = omega arith
 
-shared-slice-read-is-within-2 : tie.Need-shared-slice-read-is-within-2 invariant-loop decreases-loop
+shared-slice-read-is-within-2 : tie.Need-bounds-s-i invariant-loop-i decreases-loop-i
 shared-slice-read-is-within-2 c = omega arith
 
-is-within-requires : tie.Need-is-within-requires invariant-loop decreases-loop
+is-within-requires : tie.Need-is_within-requires invariant-loop-i decreases-loop-i
 is-within-requires c κs = tt
 
-returns-2 : tie.Need-returns-2 invariant-loop decreases-loop
-returns-2 c = sym (c.before.before.before.before.before.loop.invariant.2 ∙ fits-miss c.before.before.before.before.before.before.before.before.before.args.pattern.now c.before.before.before.before.before.before.before.before.before.args.s.now c.before.before.before.before.before.loop.i (omega arith) (omega arith) (sym c.before.is_within.ensures ∙ not-true _ c.if2.true))
+returns-2 : tie.Need-returns-then-not-is_within invariant-loop-i decreases-loop-i
+returns-2 c = sym (c.loop-i.invariant.2 ∙ fits-miss c.args.pattern.now c.args.s.now c.loop-i.i (omega arith) (omega arith) (sym c.is_within.ensures ∙ not-true _ c.if-not-is_within.true-raw))
 
-add-i : tie.Need-overflow-add-i invariant-loop decreases-loop
+add-i : tie.Need-overflow_add-i invariant-loop-i decreases-loop-i
 add-i c = omega arith
 
-loop-less : tie.Need-loop-smaller invariant-loop decreases-loop
+loop-less : tie.Need-loop-i-smaller invariant-loop-i decreases-loop-i
 loop-less c = omega arith
 
-loop-again : tie.Need-loop-preserved invariant-loop decreases-loop
-loop-again c = (omega arith, omega arith, c.before.before.before.before.before.loop.invariant.2 ∙ fits-hit c.before.before.before.before.before.before.before.before.before.args.pattern.now c.before.before.before.before.before.before.before.before.before.args.s.now c.before.before.before.before.before.loop.i (omega arith) (omega arith) (sym c.before.is_within.ensures ∙ not-false _ c.if2.false))
+loop-again : tie.Need-loop-i-preserved invariant-loop-i decreases-loop-i
+loop-again c = (omega arith, omega arith, c.loop-i.invariant.2 ∙ fits-hit c.args.pattern.now c.args.s.now c.loop-i.i (omega arith) (omega arith) (sym c.is_within.ensures ∙ not-false _ c.if-not-is_within.false-raw))
 
-returns-3 : tie.Need-returns-3 invariant-loop decreases-loop
-returns-3 c = sym (c.before.loop.invariant.2 ∙ fits-end c.before.before.before.before.before.args.pattern.now c.before.before.before.before.before.args.s.now c.before.loop.i (omega arith) (omega arith))
+returns-3 : tie.Need-returns invariant-loop-i decreases-loop-i
+returns-3 c = sym (c.loop-i.invariant.2 ∙ fits-end c.args.pattern.now c.args.s.now c.loop-i.i (omega arith) (omega arith))
 
-pub matches-spec : {M : Type 1} → statement M
-matches-spec =
+pub matches_spec : {M : Type 1} → statement M
+matches_spec =
     tie.close
     (tie.spec
-    invariant-loop
-    decreases-loop
+    invariant-loop-i
+    decreases-loop-i
     returns
     loop-holds
     shared-slice-read-is-within

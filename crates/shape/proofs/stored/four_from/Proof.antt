@@ -6,75 +6,75 @@ use borrow.Author.Rules.{rules}
 use Rattle.shape.proofs.stored.four_from.Statement.{statement}
 use Rattle.shape.proofs.stored.four_from.Tie as tie
 
-shared-slice-read-hex-value : tie.Need-shared-slice-read-hex-value
+shared-slice-read-hex-value : tie.Need-bounds-s-i
 shared-slice-read-hex-value c = search rules
 
-hex-value-requires : tie.Need-hex-value-requires
+hex-value-requires : tie.Need-hex_value-requires
 hex-value-requires c κs = search rules
 
-cast-top : tie.Need-overflow-cast-top
+cast-top : tie.Need-overflow_cast-top
 cast-top c = search rules
 
-mul-top : tie.Need-overflow-mul-top
+mul-top : tie.Need-overflow_mul-top
 mul-top c = search rules
 
-add-hex-value : tie.Need-overflow-add-hex-value
+add-hex-value : tie.Need-overflow_add-i
 add-hex-value c = search rules
 
-shared-slice-read-hex-value-2 : tie.Need-shared-slice-read-hex-value-2
+shared-slice-read-hex-value-2 : tie.Need-bounds-s-i-2
 shared-slice-read-hex-value-2 c = search rules
 
-hex-value-requires-2 : tie.Need-hex-value-requires-2
+hex-value-requires-2 : tie.Need-hex_value-requires-2
 hex-value-requires-2 c κs = search rules
 
-cast-top-2 : tie.Need-overflow-cast-top-2
+cast-top-2 : tie.Need-overflow_cast-top-2
 cast-top-2 c = search rules
 
-add-top : tie.Need-overflow-add-top
+add-top : tie.Need-overflow_add-top
 add-top c = search rules
 
-mul-result : tie.Need-overflow-mul-result
+mul-result : tie.Need-overflow_mul-result
 mul-result c = search rules
 
-add-hex-value-2 : tie.Need-overflow-add-hex-value-2
+add-hex-value-2 : tie.Need-overflow_add-i-2
 add-hex-value-2 c = search rules
 
-shared-slice-read-hex-value-3 : tie.Need-shared-slice-read-hex-value-3
+shared-slice-read-hex-value-3 : tie.Need-bounds-s-i-3
 shared-slice-read-hex-value-3 c = search rules
 
-hex-value-requires-3 : tie.Need-hex-value-requires-3
+hex-value-requires-3 : tie.Need-hex_value-requires-3
 hex-value-requires-3 c κs = search rules
 
-cast-result : tie.Need-overflow-cast-result
+cast-result : tie.Need-overflow_cast-result
 cast-result c = search rules
 
-add-result : tie.Need-overflow-add-result
+add-result : tie.Need-overflow_add-result
 add-result c = search rules
 
-mul-result-2 : tie.Need-overflow-mul-result-2
+mul-result-2 : tie.Need-overflow_mul-result-2
 mul-result-2 c = search rules
 
-add-hex-value-3 : tie.Need-overflow-add-hex-value-3
+add-hex-value-3 : tie.Need-overflow_add-i-3
 add-hex-value-3 c = search rules
 
-shared-slice-read-hex-value-4 : tie.Need-shared-slice-read-hex-value-4
+shared-slice-read-hex-value-4 : tie.Need-bounds-s-i-4
 shared-slice-read-hex-value-4 c = search rules
 
-hex-value-requires-4 : tie.Need-hex-value-requires-4
+hex-value-requires-4 : tie.Need-hex_value-requires-4
 hex-value-requires-4 c κs = search rules
 
-cast-result-2 : tie.Need-overflow-cast-result-2
+cast-result-2 : tie.Need-overflow_cast-result-2
 cast-result-2 c = search rules
 
-add-result-2 : tie.Need-overflow-add-result-2
+add-result-2 : tie.Need-overflow_add-result-2
 add-result-2 c = search rules
 
 returns : tie.Need-returns
 unfolding four_from
-returns c = rw (add-zero, c.before.before.before.before.before.before.hex-value.ensures, c.before.before.before.before.hex-value2.ensures, c.before.before.hex-value3.ensures, c.hex-value4.ensures) (omega arith)
+returns c = rw (add-zero, c.hex_value.ensures, c.hex_value-2.ensures, c.hex_value-3.ensures, c.hex_value-4.ensures) (omega arith)
 
-pub four-from-spec : {M : Type 1} → statement M
-four-from-spec =
+pub four_from_spec : {M : Type 1} → statement M
+four_from_spec =
     tie.close
     (tie.spec
     shared-slice-read-hex-value

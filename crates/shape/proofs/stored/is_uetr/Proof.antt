@@ -5,9 +5,6 @@ use borrow.Author.Rules.{rules}
 use Rattle.shape.proofs.stored.is_uetr.Statement.{statement}
 use Rattle.shape.proofs.stored.is_uetr.Tie as tie
 
-slice-aggregate-matches : tie.Need-slice-aggregate-matches
-slice-aggregate-matches c = search rules
-
 matches-requires : tie.Need-matches-requires
 matches-requires c κs = search rules
 
@@ -15,5 +12,7 @@ returns : tie.Need-returns
 unfolding is_uetr uetr_pattern
 returns c = c.matches.ensures
 
-pub is-uetr-spec : {M : Type 1} → statement M
-is-uetr-spec = tie.close (tie.spec slice-aggregate-matches matches-requires returns)
+pub is_uetr_spec : {M : Type 1} → statement M
+is_uetr_spec = tie.close (tie.spec
+    matches-requires
+    returns)

@@ -8,5 +8,5 @@ returns : tie.Need-returns
 unfolding same_identifier
 returns c = refl
 
-pub same-identifier-spec : {M : Type 1} → statement M
-same-identifier-spec = tie.close (tie.spec returns)
+pub same_identifier_spec : {M : Type 1} → statement M
+same_identifier_spec = tie.close (tie.spec returns)

@@ -8,5 +8,5 @@ returns : tie.Need-returns
 unfolding same_uetr
 returns c = refl
 
-pub same-uetr-spec : {M : Type 1} → statement M
-same-uetr-spec = tie.close (tie.spec returns)
+pub same_uetr_spec : {M : Type 1} → statement M
+same_uetr_spec = tie.close (tie.spec returns)

@@ -20,61 +20,61 @@ long s e = fits-length uetr_pattern s e
 small : {n m : ℕ} → n ≡ m → m < 2 ^ group_bits → n < 2 ^ group_bits
 small {n} {m} e h = subst (λ (k : ℕ). k < 2 ^ group_bits) (sym e) h
 
-is-uetr-requires : tie.Need-is-uetr-requires
+is-uetr-requires : tie.Need-is_uetr-requires
 is-uetr-requires c κs = search rules
 
-four-from-requires : tie.Need-four-from-requires
-four-from-requires c κs = omega (arith, long c.before.before.before.args.s.now (sym c.before.is-uetr.ensures ∙ c.if1.true))
+four-from-requires : tie.Need-four_from-requires
+four-from-requires c κs = omega (arith, long c.args.s.now (sym c.is_uetr.ensures ∙ c.if-is_uetr.true))
 
-four-from-requires-2 : tie.Need-four-from-requires-2
-four-from-requires-2 c κs = omega (arith, long c.before.before.before.before.args.s.now (sym c.before.before.is-uetr.ensures ∙ c.before.if1.true))
+four-from-requires-2 : tie.Need-four_from-requires-then-is_uetr
+four-from-requires-2 c κs = omega (arith, long c.args.s.now (sym c.is_uetr.ensures ∙ c.if-is_uetr.true))
 
-four-from-requires-3 : tie.Need-four-from-requires-3
-four-from-requires-3 c κs = omega (arith, long c.before.before.before.before.before.args.s.now (sym c.before.before.before.is-uetr.ensures ∙ c.before.before.if1.true))
+four-from-requires-3 : tie.Need-four_from-requires-then-is_uetr-2
+four-from-requires-3 c κs = omega (arith, long c.args.s.now (sym c.is_uetr.ensures ∙ c.if-is_uetr.true))
 
-four-from-requires-4 : tie.Need-four-from-requires-4
-four-from-requires-4 c κs = omega (arith, long c.before.before.before.before.before.before.args.s.now (sym c.before.before.before.before.is-uetr.ensures ∙ c.before.before.before.if1.true))
+four-from-requires-4 : tie.Need-four_from-requires-then-is_uetr-3
+four-from-requires-4 c κs = omega (arith, long c.args.s.now (sym c.is_uetr.ensures ∙ c.if-is_uetr.true))
 
 groups-requires : tie.Need-groups-requires
 unfolding uetr_pattern
 groups-requires c κs = (
-  small c.before.before.before.four-from.ensures (group-small c.before.before.before.before.before.before.before.args.s.now 0 (sym c.before.before.before.before.before.is-uetr.ensures ∙ c.before.before.before.before.if1.true) refl refl refl refl),
-  small c.before.before.four-from2.ensures (group-small c.before.before.before.before.before.before.before.args.s.now 4 (sym c.before.before.before.before.before.is-uetr.ensures ∙ c.before.before.before.before.if1.true) refl refl refl refl),
-  small c.before.four-from3.ensures (group-small c.before.before.before.before.before.before.before.args.s.now 9 (sym c.before.before.before.before.before.is-uetr.ensures ∙ c.before.before.before.before.if1.true) refl refl refl refl),
-  small c.four-from4.ensures (group-small c.before.before.before.before.before.before.before.args.s.now 14 (sym c.before.before.before.before.before.is-uetr.ensures ∙ c.before.before.before.before.if1.true) refl refl refl refl),
+  small c.four_from.ensures (group-small c.args.s.now 0 (sym c.is_uetr.ensures ∙ c.if-is_uetr.true) refl refl refl refl),
+  small c.four_from-then-is_uetr.ensures (group-small c.args.s.now 4 (sym c.is_uetr.ensures ∙ c.if-is_uetr.true) refl refl refl refl),
+  small c.four_from-then-is_uetr-2.ensures (group-small c.args.s.now 9 (sym c.is_uetr.ensures ∙ c.if-is_uetr.true) refl refl refl refl),
+  small c.four_from-then-is_uetr-3.ensures (group-small c.args.s.now 14 (sym c.is_uetr.ensures ∙ c.if-is_uetr.true) refl refl refl refl),
 )
 
-four-from-requires-5 : tie.Need-four-from-requires-5
-four-from-requires-5 c κs = omega (arith, long c.before.before.before.before.before.before.before.before.args.s.now (sym c.before.before.before.before.before.before.is-uetr.ensures ∙ c.before.before.before.before.before.if1.true))
+four-from-requires-5 : tie.Need-four_from-requires-then-is_uetr-4
+four-from-requires-5 c κs = omega (arith, long c.args.s.now (sym c.is_uetr.ensures ∙ c.if-is_uetr.true))
 
-four-from-requires-6 : tie.Need-four-from-requires-6
-four-from-requires-6 c κs = omega (arith, long c.before.before.before.before.before.before.before.before.before.args.s.now (sym c.before.before.before.before.before.before.before.is-uetr.ensures ∙ c.before.before.before.before.before.before.if1.true))
+four-from-requires-6 : tie.Need-four_from-requires-then-is_uetr-5
+four-from-requires-6 c κs = omega (arith, long c.args.s.now (sym c.is_uetr.ensures ∙ c.if-is_uetr.true))
 
-four-from-requires-7 : tie.Need-four-from-requires-7
-four-from-requires-7 c κs = omega (arith, long c.before.before.before.before.before.before.before.before.before.before.args.s.now (sym c.before.before.before.before.before.before.before.before.is-uetr.ensures ∙ c.before.before.before.before.before.before.before.if1.true))
+four-from-requires-7 : tie.Need-four_from-requires-then-is_uetr-6
+four-from-requires-7 c κs = omega (arith, long c.args.s.now (sym c.is_uetr.ensures ∙ c.if-is_uetr.true))
 
-four-from-requires-8 : tie.Need-four-from-requires-8
-four-from-requires-8 c κs = omega (arith, long c.before.before.before.before.before.before.before.before.before.before.before.args.s.now (sym c.before.before.before.before.before.before.before.before.before.is-uetr.ensures ∙ c.before.before.before.before.before.before.before.before.if1.true))
+four-from-requires-8 : tie.Need-four_from-requires-then-is_uetr-7
+four-from-requires-8 c κs = omega (arith, long c.args.s.now (sym c.is_uetr.ensures ∙ c.if-is_uetr.true))
 
-groups-requires-2 : tie.Need-groups-requires-2
+groups-requires-2 : tie.Need-groups-requires-then-is_uetr
 unfolding uetr_pattern
 groups-requires-2 c κs = (
-  small c.before.before.before.four-from5.ensures (group-small c.before.before.before.before.before.before.before.before.before.before.before.before.args.s.now 19 (sym c.before.before.before.before.before.before.before.before.before.before.is-uetr.ensures ∙ c.before.before.before.before.before.before.before.before.before.if1.true) refl refl refl refl),
-  small c.before.before.four-from6.ensures (group-small c.before.before.before.before.before.before.before.before.before.before.before.before.args.s.now 24 (sym c.before.before.before.before.before.before.before.before.before.before.is-uetr.ensures ∙ c.before.before.before.before.before.before.before.before.before.if1.true) refl refl refl refl),
-  small c.before.four-from7.ensures (group-small c.before.before.before.before.before.before.before.before.before.before.before.before.args.s.now 28 (sym c.before.before.before.before.before.before.before.before.before.before.is-uetr.ensures ∙ c.before.before.before.before.before.before.before.before.before.if1.true) refl refl refl refl),
-  small c.four-from8.ensures (group-small c.before.before.before.before.before.before.before.before.before.before.before.before.args.s.now 32 (sym c.before.before.before.before.before.before.before.before.before.before.is-uetr.ensures ∙ c.before.before.before.before.before.before.before.before.before.if1.true) refl refl refl refl),
+  small c.four_from-then-is_uetr-4.ensures (group-small c.args.s.now 19 (sym c.is_uetr.ensures ∙ c.if-is_uetr.true) refl refl refl refl),
+  small c.four_from-then-is_uetr-5.ensures (group-small c.args.s.now 24 (sym c.is_uetr.ensures ∙ c.if-is_uetr.true) refl refl refl refl),
+  small c.four_from-then-is_uetr-6.ensures (group-small c.args.s.now 28 (sym c.is_uetr.ensures ∙ c.if-is_uetr.true) refl refl refl refl),
+  small c.four_from-then-is_uetr-7.ensures (group-small c.args.s.now 32 (sym c.is_uetr.ensures ∙ c.if-is_uetr.true) refl refl refl refl),
 )
 
-returns : tie.Need-returns
+returns : tie.Need-returns-then-is_uetr
 unfolding uetr_of
-returns c = rw (sym c.before.before.before.before.before.before.before.before.before.before.before.is-uetr.ensures ∙ c.before.before.before.before.before.before.before.before.before.before.if1.true, c.before.before.before.before.before.groups.ensures, c.groups2.ensures, c.before.before.before.before.before.before.before.before.before.four-from.ensures, c.before.before.before.before.before.before.before.before.four-from2.ensures, c.before.before.before.before.before.before.before.four-from3.ensures, c.before.before.before.before.before.before.four-from4.ensures, c.before.before.before.before.four-from5.ensures, c.before.before.before.four-from6.ensures, c.before.before.four-from7.ensures, c.before.four-from8.ensures)
+returns c = rw (sym c.is_uetr.ensures ∙ c.if-is_uetr.true, c.groups.ensures, c.groups-then-is_uetr.ensures, c.four_from.ensures, c.four_from-then-is_uetr.ensures, c.four_from-then-is_uetr-2.ensures, c.four_from-then-is_uetr-3.ensures, c.four_from-then-is_uetr-4.ensures, c.four_from-then-is_uetr-5.ensures, c.four_from-then-is_uetr-6.ensures, c.four_from-then-is_uetr-7.ensures)
 
-returns-2 : tie.Need-returns-2
+returns-2 : tie.Need-returns
 unfolding uetr_of
-returns-2 c = rw (sym c.before.is-uetr.ensures ∙ c.if1.false)
+returns-2 c = rw (sym c.is_uetr.ensures ∙ c.if-is_uetr.false)
 
-pub uetr-of-spec : {M : Type 1} → statement M
-uetr-of-spec =
+pub uetr_of_spec : {M : Type 1} → statement M
+uetr_of_spec =
     tie.close
     (tie.spec
     is-uetr-requires
