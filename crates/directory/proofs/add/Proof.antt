@@ -7,13 +7,13 @@ use Rattle.directory.specs.Gathering.{added}
 use Rattle.directory.proofs.add.Statement.{statement}
 use Rattle.directory.proofs.add.Tie as tie
 
-mul-p : tie.Need-overflow-mul-p
+mul-p : tie.Need-offset_bounds-next-at
 mul-p c = search rules
 
-element-set-from-p : tie.Need-element-set-from-p
+element-set-from-p : tie.Need-bounds-next-at
 element-set-from-p c = search rules
 
-add-next : tie.Need-overflow-add-next
+add-next : tie.Need-overflow_add-next
 add-next c = search rules
 
 returns : tie.Need-returns
@@ -22,7 +22,7 @@ returns c =
     ⊎_elim
     (λ w. rw (add-one, w.1, lt-ltb _ _ w.0.taken))
     (λ w. rw (add-one, w.1, le-ltb _ _ w.0.left))
-    c.if1.branch
+    c.if-at-lt-RECORDS_MOST.branch
 
 pub add_spec : {M : Type 1} → statement M
 add_spec = tie.close (tie.spec mul-p element-set-from-p add-next returns)

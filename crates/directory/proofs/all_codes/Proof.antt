@@ -14,45 +14,45 @@ use Rattle.directory.proofs.Turns.{goes_on, every-hit, every-miss, every-end}
 use Rattle.directory.proofs.all_codes.Statement.{statement}
 use Rattle.directory.proofs.all_codes.Tie as tie
 
-abbrev invariant-loop : tie.invariant-loop
-invariant-loop g records i₀ i =
+abbrev invariant-loop-i : tie.invariant-loop-i
+invariant-loop-i g records i₀ i =
     (i ≤ records_most)
     × (every (λ (p : Participant). leb p.code code_most) (records_in g)
     ≡ every (λ (p : Participant). leb p.code code_most) (drop i (records_in g)))
 
-abbrev decreases-loop : tie.decreases-loop
-decreases-loop g records i₀ i = records_most - i
+abbrev decreases-loop-i : tie.decreases-loop-i
+decreases-loop-i g records i₀ i = records_most - i
 
-loop-holds : tie.Need-loop-init invariant-loop decreases-loop
+loop-holds : tie.Need-loop-i-init invariant-loop-i decreases-loop-i
 loop-holds c = (omega arith, refl)
 
-mul-p : tie.Need-overflow-mul-p invariant-loop decreases-loop
+mul-p : tie.Need-offset_bounds-records-i invariant-loop-i decreases-loop-i
 mul-p c = search rules
 
-array-copy-out-p : tie.Need-array-copy-out-p invariant-loop decreases-loop
-array-copy-out-p c = omega (arith, goes_on c.before.before.before.before.args.g c.before.before.loop.i c.if1.true)
+array-copy-out-p : tie.Need-bounds-records-i invariant-loop-i decreases-loop-i
+array-copy-out-p c = omega (arith, goes_on c.args.g c.loop-i.i c.loop-i-test.true)
 
-returns : tie.Need-returns invariant-loop decreases-loop
-returns c = sym (c.before.before.before.before.before.loop.invariant.1 ∙ every-miss c.before.before.before.before.before.before.before.args.g (simp length-map at c.before.before.before.before.before.before.before.well-formed.0.1.1.1.0.1.0.1) c.before.before.before.before.before.loop.i (λ (p : Participant). leb p.code code_most) _ c.before.before.before.if1.true (lt-leb _ _ c.if2.true))
+returns : tie.Need-returns-then-p-gt-CODE_MOST invariant-loop-i decreases-loop-i
+returns c = sym (c.loop-i.invariant.1 ∙ every-miss c.args.g (simp length-map at c.before.before.before.before.before.before.before.well_formed.0.1.1.1.0.1.0.1) c.loop-i.i (λ (p : Participant). leb p.code code_most) _ c.loop-i-test.true (lt-leb _ _ c.if-p-gt-CODE_MOST.true))
 
-add-i : tie.Need-overflow-add-i invariant-loop decreases-loop
+add-i : tie.Need-overflow_add-i invariant-loop-i decreases-loop-i
 add-i c = search rules
 
-loop-less : tie.Need-loop-smaller invariant-loop decreases-loop
-loop-less c = omega (arith, goes_on c.before.before.before.before.before.before.before.args.g c.before.before.before.before.before.loop.i c.before.before.before.if1.true)
+loop-less : tie.Need-loop-i-smaller invariant-loop-i decreases-loop-i
+loop-less c = omega (arith, goes_on c.args.g c.loop-i.i c.loop-i-test.true)
 
-loop-again : tie.Need-loop-preserved invariant-loop decreases-loop
-loop-again c = (omega (arith, goes_on c.before.before.before.before.before.before.before.args.g c.before.before.before.before.before.loop.i c.before.before.before.if1.true), c.before.before.before.before.before.loop.invariant.1 ∙ every-hit c.before.before.before.before.before.before.before.args.g (simp length-map at c.before.before.before.before.before.before.before.well-formed.0.1.1.1.0.1.0.1) c.before.before.before.before.before.loop.i (λ (p : Participant). leb p.code code_most) _ c.before.before.before.if1.true (le-leb _ _ c.if2.false))
+loop-again : tie.Need-loop-i-preserved invariant-loop-i decreases-loop-i
+loop-again c = (omega (arith, goes_on c.args.g c.loop-i.i c.loop-i-test.true), c.loop-i.invariant.1 ∙ every-hit c.args.g (simp length-map at c.before.before.before.before.before.before.before.well_formed.0.1.1.1.0.1.0.1) c.loop-i.i (λ (p : Participant). leb p.code code_most) _ c.loop-i-test.true (le-leb _ _ c.if-p-gt-CODE_MOST.false))
 
-returns-2 : tie.Need-returns-2 invariant-loop decreases-loop
-returns-2 c = sym (c.before.before.loop.invariant.1 ∙ every-end c.before.before.before.before.args.g (simp length-map at c.before.before.before.before.well-formed.0.1.1.1.0.1.0.1) c.before.before.loop.i (λ (p : Participant). leb p.code code_most) c.if1.false)
+returns-2 : tie.Need-returns invariant-loop-i decreases-loop-i
+returns-2 c = sym (c.loop-i.invariant.1 ∙ every-end c.args.g (simp length-map at c.before.before.before.before.well_formed.0.1.1.1.0.1.0.1) c.loop-i.i (λ (p : Participant). leb p.code code_most) c.loop-i-test.false)
 
-pub all-codes-spec : {M : Type 1} → statement M
-all-codes-spec =
+pub all_codes_spec : {M : Type 1} → statement M
+all_codes_spec =
     tie.close
     (tie.spec
-    invariant-loop
-    decreases-loop
+    invariant-loop-i
+    decreases-loop-i
     loop-holds
     mul-p
     array-copy-out-p

@@ -11,43 +11,43 @@ use Rattle.directory.proofs.Turns.{goes_on, found-hit, found-miss, found-end}
 use Rattle.directory.proofs.find_in.Statement.{statement}
 use Rattle.directory.proofs.find_in.Tie as tie
 
-abbrev invariant-loop : tie.invariant-loop
-invariant-loop g code records i₀ i = (i ≤ records_most) × (found (records_in g) code ≡ found_from i (drop i (records_in g)) code)
+abbrev invariant-loop-i : tie.invariant-loop-i
+invariant-loop-i g code records i₀ i = (i ≤ records_most) × (found (records_in g) code ≡ found_from i (drop i (records_in g)) code)
 
-abbrev decreases-loop : tie.decreases-loop
-decreases-loop g code records i₀ i = records_most - i
+abbrev decreases-loop-i : tie.decreases-loop-i
+decreases-loop-i g code records i₀ i = records_most - i
 
-loop-holds : tie.Need-loop-init invariant-loop decreases-loop
+loop-holds : tie.Need-loop-i-init invariant-loop-i decreases-loop-i
 unfolding found
 loop-holds c = (omega arith, refl)
 
-mul-p : tie.Need-overflow-mul-p invariant-loop decreases-loop
+mul-p : tie.Need-offset_bounds-records-i invariant-loop-i decreases-loop-i
 mul-p c = search rules
 
-array-copy-out-p : tie.Need-array-copy-out-p invariant-loop decreases-loop
-array-copy-out-p c = omega (arith, goes_on c.before.before.before.before.args.g c.before.before.loop.i c.if1.true)
+array-copy-out-p : tie.Need-bounds-records-i invariant-loop-i decreases-loop-i
+array-copy-out-p c = omega (arith, goes_on c.args.g c.loop-i.i c.loop-i-test.true)
 
-returns : tie.Need-returns invariant-loop decreases-loop
-returns c = sym (c.before.before.before.before.before.loop.invariant.1 ∙ found-hit c.before.before.before.before.before.before.before.args.g (simp length-map at c.before.before.before.before.before.before.before.well-formed.0.1.1.1.0.1.0.1) c.before.before.before.before.before.loop.i c.before.before.before.before.before.before.before.args.code _ c.before.before.before.if1.true (eq-eqb _ _ c.if2.true))
+returns : tie.Need-returns-then-p-code invariant-loop-i decreases-loop-i
+returns c = sym (c.loop-i.invariant.1 ∙ found-hit c.args.g (simp length-map at c.before.before.before.before.before.before.before.well_formed.0.1.1.1.0.1.0.1) c.loop-i.i c.args.code _ c.loop-i-test.true (eq-eqb _ _ c.if-p-code.true))
 
-add-i : tie.Need-overflow-add-i invariant-loop decreases-loop
+add-i : tie.Need-overflow_add-i invariant-loop-i decreases-loop-i
 add-i c = search rules
 
-loop-less : tie.Need-loop-smaller invariant-loop decreases-loop
-loop-less c = omega (arith, goes_on c.before.before.before.before.before.before.before.args.g c.before.before.before.before.before.loop.i c.before.before.before.if1.true)
+loop-less : tie.Need-loop-i-smaller invariant-loop-i decreases-loop-i
+loop-less c = omega (arith, goes_on c.args.g c.loop-i.i c.loop-i-test.true)
 
-loop-again : tie.Need-loop-preserved invariant-loop decreases-loop
-loop-again c = (omega (arith, goes_on c.before.before.before.before.before.before.before.args.g c.before.before.before.before.before.loop.i c.before.before.before.if1.true), c.before.before.before.before.before.loop.invariant.1 ∙ found-miss c.before.before.before.before.before.before.before.args.g (simp length-map at c.before.before.before.before.before.before.before.well-formed.0.1.1.1.0.1.0.1) c.before.before.before.before.before.loop.i c.before.before.before.before.before.before.before.args.code _ c.before.before.before.if1.true (ne_eqb _ _ c.if2.false))
+loop-again : tie.Need-loop-i-preserved invariant-loop-i decreases-loop-i
+loop-again c = (omega (arith, goes_on c.args.g c.loop-i.i c.loop-i-test.true), c.loop-i.invariant.1 ∙ found-miss c.args.g (simp length-map at c.before.before.before.before.before.before.before.well_formed.0.1.1.1.0.1.0.1) c.loop-i.i c.args.code _ c.loop-i-test.true (ne_eqb _ _ c.if-p-code.false))
 
-returns-2 : tie.Need-returns-2 invariant-loop decreases-loop
-returns-2 c = sym (c.before.before.loop.invariant.1 ∙ found-end c.before.before.before.before.args.g (simp length-map at c.before.before.before.before.well-formed.0.1.1.1.0.1.0.1) c.before.before.loop.i c.before.before.before.before.args.code c.if1.false)
+returns-2 : tie.Need-returns invariant-loop-i decreases-loop-i
+returns-2 c = sym (c.loop-i.invariant.1 ∙ found-end c.args.g (simp length-map at c.before.before.before.before.well_formed.0.1.1.1.0.1.0.1) c.loop-i.i c.args.code c.loop-i-test.false)
 
-pub find-in-spec : {M : Type 1} → statement M
-find-in-spec =
+pub find_in_spec : {M : Type 1} → statement M
+find_in_spec =
     tie.close
     (tie.spec
-    invariant-loop
-    decreases-loop
+    invariant-loop-i
+    decreases-loop-i
     loop-holds
     mul-p
     array-copy-out-p

@@ -2,14 +2,14 @@
 use Rattle.directory.proofs.has_owner.Statement.{statement}
 use Rattle.directory.proofs.has_owner.Tie as tie
 
-find-in-requires : tie.Need-find-in-requires
+find-in-requires : tie.Need-find_in-requires
 find-in-requires c κs = tt
 
-is-owner-found-requires : tie.Need-is-owner-found-requires
+is-owner-found-requires : tie.Need-is_owner_found-requires
 is-owner-found-requires c κs = tt
 
 returns : tie.Need-returns
-returns c = rw (← c.before.find-in.ensures) c.is-owner-found.ensures
+returns c = rw (← c.find_in.ensures) c.is_owner_found.ensures
 
-pub has-owner-spec : {M : Type 1} → statement M
-has-owner-spec = tie.close (tie.spec find-in-requires is-owner-found-requires returns)
+pub has_owner_spec : {M : Type 1} → statement M
+has_owner_spec = tie.close (tie.spec find-in-requires is-owner-found-requires returns)

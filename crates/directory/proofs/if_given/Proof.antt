@@ -4,19 +4,19 @@ use Rattle.directory.specs.Gathering.{if_given}
 use Rattle.directory.proofs.if_given.Statement.{statement}
 use Rattle.directory.proofs.if_given.Tie as tie
 
-enum-known-code : tie.Need-enum-known-code
+enum-known-code : tie.Need-enum_known-code
 enum-known-code c = search rules
 
-enum_told : tie.Need-enum-told
+enum_told : tie.Need-enum_told-1
 enum_told c = search rules
 
-returns : tie.Need-returns
+returns : tie.Need-returns-in-Of
 unfolding if_given
-returns c = rw c.before.code.given.1
+returns c = rw c.in-Of.is
 
-returns-2 : tie.Need-returns-2
+returns-2 : tie.Need-returns-in-None
 unfolding if_given
-returns-2 c = rw c.enum_told.given.1
+returns-2 c = rw c.in-None.is
 
-pub if-given-spec : {M : Type 1} → statement M
-if-given-spec = tie.close (tie.spec enum-known-code enum_told returns returns-2)
+pub if_given_spec : {M : Type 1} → statement M
+if_given_spec = tie.close (tie.spec enum-known-code enum_told returns returns-2)

@@ -5,23 +5,23 @@ use Rattle.directory.specs.Gathering.{looked}
 use Rattle.directory.proofs.look.Statement.{statement}
 use Rattle.directory.proofs.look.Tie as tie
 
-enum-known-before : tie.Need-enum-known-before
+enum-known-before : tie.Need-enum_known-before
 enum-known-before c = search rules
 
-enum_told : tie.Need-enum-told
+enum_told : tie.Need-enum_told-1
 enum_told c = search rules
 
-returns : tie.Need-returns
+returns : tie.Need-returns-in-At
 unfolding looked
-returns c = rw c.before.before2.given.1
+returns c = rw c.in-At.is
 
-returns-2 : tie.Need-returns-2
+returns-2 : tie.Need-returns-then-p-code
 unfolding looked
-returns-2 c = rw (c.before.before.enum_told.given.1, eq-eqb _ _ c.if1.true)
+returns-2 c = rw (c.in-Missing.is, eq-eqb _ _ c.if-p-code.true)
 
-returns-3 : tie.Need-returns-3
+returns-3 : tie.Need-returns-else-p-code
 unfolding looked
-returns-3 c = rw (c.before.before.enum_told.given.1, ne_eqb _ _ c.if1.false)
+returns-3 c = rw (c.in-Missing.is, ne_eqb _ _ c.if-p-code.false)
 
 pub look_spec : {M : Type 1} → statement M
 look_spec = tie.close (tie.spec enum-known-before enum_told returns returns-2 returns-3)

@@ -8,5 +8,5 @@ nobody-requires c κs = tt
 returns : tie.Need-returns
 returns c = rw c.nobody.ensures
 
-pub none-gathered-spec : {M : Type 1} → statement M
-none-gathered-spec = tie.close (tie.spec nobody-requires returns)
+pub none_gathered_spec : {M : Type 1} → statement M
+none_gathered_spec = tie.close (tie.spec nobody-requires returns)

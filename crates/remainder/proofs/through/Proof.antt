@@ -9,40 +9,40 @@ use Rattle.remainder.proofs.Carry.{carry-turn, carry-end}
 use Rattle.remainder.proofs.through.Statement.{statement}
 use Rattle.remainder.proofs.through.Tie as tie
 
-abbrev invariant-loop : tie.invariant-loop
-invariant-loop s at₀ i₀ at i = (i ≤ length s) × (at.remainder < modulus)
+abbrev invariant-loop-i : tie.invariant-loop-i
+invariant-loop-i s at₀ i₀ at i = (i ≤ length s) × (at.remainder < modulus)
     × (written_all at₀.remainder s % modulus ≡ written_all at.remainder (drop i s) % modulus)
 
-abbrev decreases-loop : tie.decreases-loop
-decreases-loop s at₀ i₀ at i = length s - i
+abbrev decreases-loop-i : tie.decreases-loop-i
+decreases-loop-i s at₀ i₀ at i = length s - i
 
-loop-holds : tie.Need-loop-init invariant-loop decreases-loop
-loop-holds c = (omega arith, c.before.requires, refl)
+loop-holds : tie.Need-loop-i-init invariant-loop-i decreases-loop-i
+loop-holds c = (omega arith, c.requires, refl)
 
-shared-slice-read-next : tie.Need-shared-slice-read-next invariant-loop decreases-loop
+shared-slice-read-next : tie.Need-bounds-s-i invariant-loop-i decreases-loop-i
 shared-slice-read-next c = omega arith
 
-next-requires : tie.Need-next-requires invariant-loop decreases-loop
+next-requires : tie.Need-next-at-requires invariant-loop-i decreases-loop-i
 next-requires c κs = tt
 
-add-i : tie.Need-overflow-add-i invariant-loop decreases-loop
+add-i : tie.Need-overflow_add-i invariant-loop-i decreases-loop-i
 add-i c = omega arith
 
-loop-less : tie.Need-loop-smaller invariant-loop decreases-loop
+loop-less : tie.Need-loop-i-smaller invariant-loop-i decreases-loop-i
 loop-less c = omega arith
 
-loop-again : tie.Need-loop-preserved invariant-loop decreases-loop
-loop-again c = (omega arith, rw c.next.ensures (omega arith), c.before.before.before.loop.invariant.2 ∙ carry-turn c.before.before.before.before.before.args.s.now c.before.before.before.loop.i c.before.before.before.loop.at.remainder (omega arith) ∙ rw c.next.ensures)
+loop-again : tie.Need-loop-i-preserved invariant-loop-i decreases-loop-i
+loop-again c = (omega arith, rw c.next-at.ensures (omega arith), c.loop-i.invariant.2 ∙ carry-turn c.args.s.now c.loop-i.i c.loop-i.at.remainder (omega arith) ∙ rw c.next-at.ensures)
 
-returns : tie.Need-returns invariant-loop decreases-loop
-returns c = rw (c.before.loop.invariant.2, carry-end c.before.before.before.args.s.now c.before.loop.i c.before.loop.at.remainder (omega arith), mod-eq_of_lt c.before.loop.invariant.1)
+returns : tie.Need-returns invariant-loop-i decreases-loop-i
+returns c = rw (c.loop-i.invariant.2, carry-end c.args.s.now c.loop-i.i c.loop-i.at.remainder (omega arith), mod-eq_of_lt c.loop-i.invariant.1)
 
-pub through-spec : {M : Type 1} → statement M
-through-spec =
+pub through_spec : {M : Type 1} → statement M
+through_spec =
     tie.close
     (tie.spec
-    invariant-loop
-    decreases-loop
+    invariant-loop-i
+    decreases-loop-i
     loop-holds
     shared-slice-read-next
     next-requires

@@ -6,17 +6,17 @@ use borrow.Author.Rules.{rules}
 use Rattle.table.proofs.entry.Statement.{statement}
 use Rattle.table.proofs.entry.Tie as tie
 
-shared-slice-read-result : tie.Need-shared-slice-read-result
+shared-slice-read-result : tie.Need-bounds-order-place
 shared-slice-read-result c = search rules
 
-cast-result : tie.Need-overflow-cast-result
-cast-result c = omega (arith, c.shared-slice-known.given c.before.before.args.place)
+cast-result : tie.Need-overflow_cast-result
+cast-result c = omega (arith, c.shared_slice_known-1.given c.args.place)
 
-returns : tie.Need-returns
+returns : tie.Need-returns-then-place-order
 returns c = search rules
 
-returns-2 : tie.Need-returns-2
-returns-2 c = sym (get_or-eq_default c.before.args.order.now 0 c.if1.false)
+returns-2 : tie.Need-returns
+returns-2 c = sym (get_or-eq_default c.args.order.now 0 c.if-place-order.false)
 
 pub entry_spec : {M : Type 1} → statement M
 entry_spec = tie.close (tie.spec shared-slice-read-result cast-result returns returns-2)

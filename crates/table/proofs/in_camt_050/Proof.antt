@@ -7,5 +7,5 @@ use Rattle.table.proofs.in_camt_050.Tie as tie
 returns : tie.Need-returns
 returns c = sym (camt-050-ranges _ c.requires)
 
-pub in-camt-050-spec : {M : Type 1} → statement M
-in-camt-050-spec = tie.close (tie.spec returns)
+pub in_camt_050_spec : {M : Type 1} → statement M
+in_camt_050_spec = tie.close (tie.spec returns)

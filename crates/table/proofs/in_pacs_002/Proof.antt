@@ -7,5 +7,5 @@ use Rattle.table.proofs.in_pacs_002.Tie as tie
 returns : tie.Need-returns
 returns c = sym (pacs-002-ranges _ c.requires)
 
-pub in-pacs-002-spec : {M : Type 1} → statement M
-in-pacs-002-spec = tie.close (tie.spec returns)
+pub in_pacs_002_spec : {M : Type 1} → statement M
+in_pacs_002_spec = tie.close (tie.spec returns)

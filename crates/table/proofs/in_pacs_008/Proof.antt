@@ -7,5 +7,5 @@ use Rattle.table.proofs.in_pacs_008.Tie as tie
 returns : tie.Need-returns
 returns c = sym (pacs-008-ranges _ c.requires)
 
-pub in-pacs-008-spec : {M : Type 1} → statement M
-in-pacs-008-spec = tie.close (tie.spec returns)
+pub in_pacs_008_spec : {M : Type 1} → statement M
+in_pacs_008_spec = tie.close (tie.spec returns)

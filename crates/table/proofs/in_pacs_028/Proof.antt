@@ -7,5 +7,5 @@ use Rattle.table.proofs.in_pacs_028.Tie as tie
 returns : tie.Need-returns
 returns c = sym (pacs-028-ranges _ c.requires)
 
-pub in-pacs-028-spec : {M : Type 1} → statement M
-in-pacs-028-spec = tie.close (tie.spec returns)
+pub in_pacs_028_spec : {M : Type 1} → statement M
+in_pacs_028_spec = tie.close (tie.spec returns)

@@ -5,11 +5,11 @@ use Rattle.table.proofs.Ranges.{rejecting-ranges, none-rejecting-above}
 use Rattle.table.proofs.is_rejecting.Statement.{statement}
 use Rattle.table.proofs.is_rejecting.Tie as tie
 
-returns : tie.Need-returns
-returns c = sym (none-rejecting-above _ c.if1.true)
+returns : tie.Need-returns-then-number-gt-CHECKS_MOST
+returns c = sym (none-rejecting-above _ c.if-number-gt-CHECKS_MOST.true)
 
-returns-2 : tie.Need-returns-2
-returns-2 c = sym (rejecting-ranges c.before.args.number (omega (arith, c.if1.false)))
+returns-2 : tie.Need-returns
+returns-2 c = sym (rejecting-ranges c.args.number (omega (arith, c.if-number-gt-CHECKS_MOST.false)))
 
-pub is-rejecting-spec : {M : Type 1} → statement M
-is-rejecting-spec = tie.close (tie.spec returns returns-2)
+pub is_rejecting_spec : {M : Type 1} → statement M
+is_rejecting_spec = tie.close (tie.spec returns returns-2)

@@ -10,35 +10,35 @@ use Rattle.remainder.proofs.Carried.next.Tie as tie
 abbrev carried : ℕ → Carried
 carried n = record { remainder = n }
 
-is-digit-requires : tie.Need-is-digit-requires
+is-digit-requires : tie.Need-is_digit-requires
 is-digit-requires c κs = search rules
 
-mul-t5 : tie.Need-overflow-mul-t5
+mul-t5 : tie.Need-overflow_mul-result
 mul-t5 c = search rules
 
 below-requires : tie.Need-below-requires
 below-requires c κs = search rules
 
-add-t7 : tie.Need-overflow-add-t7
+add-t7 : tie.Need-overflow_add-result
 add-t7 c = search rules
 
-returns : tie.Need-returns
-returns c = rw c.below.ensures (ap carried (digit-next c.before.before.before.before.args.self.remainder c.before.before.before.before.args.b (sym c.before.before.is_digit.ensures ∙ c.before.if1.true)))
+returns : tie.Need-returns-then-is_digit
+returns c = rw c.below.ensures (ap carried (digit-next c.args.self.remainder c.args.b (sym c.is_digit.ensures ∙ c.if-is_digit.true)))
 
-mul-t9 : tie.Need-overflow-mul-t9
+mul-t9 : tie.Need-overflow_mul-result-2
 mul-t9 c = search rules
 
 below-requires-2 : tie.Need-below-requires-2
 below-requires-2 c κs = search rules
 
-add-t11 : tie.Need-overflow-add-t11
+add-t11 : tie.Need-overflow_add-result-2
 add-t11 c = search rules
 
-returns-2 : tie.Need-returns-2
-returns-2 c = rw c.below2.ensures (ap carried (letter-next c.before.before.before.before.args.self.remainder c.before.before.before.before.args.b (sym c.before.before.is_digit.ensures ∙ c.before.if1.false)))
+returns-2 : tie.Need-returns
+returns-2 c = rw c.below-2.ensures (ap carried (letter-next c.args.self.remainder c.args.b (sym c.is_digit.ensures ∙ c.if-is_digit.false)))
 
-pub next-spec : {M : Type 1} → statement M
-next-spec =
+pub next_spec : {M : Type 1} → statement M
+next_spec =
     tie.close
     (tie.spec
     is-digit-requires
