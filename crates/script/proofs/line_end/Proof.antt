@@ -11,5 +11,5 @@ returns : tie.Need-returns
 unfolding line_end
 returns c = c.find.ensures
 
-pub line-end-spec : {M : Type 1} → statement M
-line-end-spec = tie.close (tie.spec find-requires returns)
+pub line_end_spec : {M : Type 1} → statement M
+line_end_spec = tie.close (tie.spec find-requires returns)

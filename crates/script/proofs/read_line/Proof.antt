@@ -7,39 +7,39 @@ use borrow.Author.Rules.{rules}
 use Rattle.script.proofs.read_line.Statement.{statement}
 use Rattle.script.proofs.read_line.Tie as tie
 
-skip-blanks-requires : tie.Need-skip-blanks-requires
+skip-blanks-requires : tie.Need-skip_blanks-start-requires
 skip-blanks-requires c κs = search rules
 
-word-end-requires : tie.Need-word-end-requires
+word-end-requires : tie.Need-word_end-end-requires
 word-end-requires c κs = search rules
 
-skip-blanks-requires-2 : tie.Need-skip-blanks-requires-2
+skip-blanks-requires-2 : tie.Need-skip_blanks-from-requires
 skip-blanks-requires-2 c κs = search rules
 
-sub-word-of : tie.Need-overflow-sub-word-of
-sub-word-of c = omega (arith, c.before.before.skip-blanks.ensures, c.before.word_end.ensures, word-behind c.before.before.before.before.args.s.now c.before.before.skip-blanks.result, word-within c.before.before.before.before.args.s.now c.before.before.skip-blanks.result (omega (arith, c.before.before.skip-blanks.ensures, blanks-within c.before.before.before.before.args.s.now 0 (omega arith))))
+sub-word-of : tie.Need-slice_bounds-word_of-count
+sub-word-of c = omega (arith, c.skip_blanks-start.ensures, c.word_end-end.ensures, word-behind c.args.s.now c.skip_blanks-start.result, word-within c.args.s.now c.skip_blanks-start.result (omega (arith, c.skip_blanks-start.ensures, blanks-within c.args.s.now 0 (omega arith))))
 
-part-word-of-start : tie.Need-slice-bounds-word-of-start
-part-word-of-start c = omega (arith, c.before.before.skip-blanks.ensures, c.before.word_end.ensures, word-behind c.before.before.before.before.args.s.now c.before.before.skip-blanks.result, word-within c.before.before.before.before.args.s.now c.before.before.skip-blanks.result (omega (arith, c.before.before.skip-blanks.ensures, blanks-within c.before.before.before.before.args.s.now 0 (omega arith))))
+part-word-of-start : tie.Need-slice_bounds-word_of-start
+part-word-of-start c = omega (arith, c.skip_blanks-start.ensures, c.word_end-end.ensures, word-behind c.args.s.now c.skip_blanks-start.result, word-within c.args.s.now c.skip_blanks-start.result (omega (arith, c.skip_blanks-start.ensures, blanks-within c.args.s.now 0 (omega arith))))
 
-part-word-of-end : tie.Need-slice-bounds-word-of-end
-part-word-of-end c = omega (arith, c.before.before.skip-blanks.ensures, c.before.word_end.ensures, word-behind c.before.before.before.before.args.s.now c.before.before.skip-blanks.result, word-within c.before.before.before.before.args.s.now c.before.before.skip-blanks.result (omega (arith, c.before.before.skip-blanks.ensures, blanks-within c.before.before.before.before.args.s.now 0 (omega arith))))
+part-word-of-end : tie.Need-slice_bounds-word_of-end
+part-word-of-end c = omega (arith, c.skip_blanks-start.ensures, c.word_end-end.ensures, word-behind c.args.s.now c.skip_blanks-start.result, word-within c.args.s.now c.skip_blanks-start.result (omega (arith, c.skip_blanks-start.ensures, blanks-within c.args.s.now 0 (omega arith))))
 
-word-of-requires : tie.Need-word-of-requires
+word-of-requires : tie.Need-word_of-word-requires
 word-of-requires c κs = search rules
 
-values-of-requires : tie.Need-values-of-requires
-values-of-requires c κs = rw (c.before.before.skip-blanks2.ensures, c.before.before.before.word_end.ensures) (next-within c.before.before.before.before.before.before.args.s.now c.before.before.before.before.skip-blanks.result (omega (arith, c.before.before.before.before.skip-blanks.ensures, blanks-within c.before.before.before.before.before.before.args.s.now 0 (omega arith))))
+values-of-requires : tie.Need-values_of-taken-requires
+values-of-requires c κs = rw (c.skip_blanks-from.ensures, c.word_end-end.ensures) (next-within c.args.s.now c.skip_blanks-start.result (omega (arith, c.skip_blanks-start.ensures, blanks-within c.args.s.now 0 (omega arith))))
 
-is-whole-requires : tie.Need-is-whole-requires
+is-whole-requires : tie.Need-is_whole-requires
 is-whole-requires c κs = tt
 
 returns : tie.Need-returns
 unfolding line_of
-returns c = rw (c.is_whole.ensures, c.before.before.values_of.ensures, c.before.before.before.word_of.ensures, c.before.before.before.before.before.skip-blanks2.ensures, c.before.before.before.before.before.before.word_end.ensures, c.before.before.before.before.before.before.before.skip-blanks.ensures)
+returns c = rw (c.is_whole.ensures, c.values_of-taken.ensures, c.word_of-word.ensures, c.skip_blanks-from.ensures, c.word_end-end.ensures, c.skip_blanks-start.ensures)
 
-pub read-line-spec : {M : Type 1} → statement M
-read-line-spec =
+pub read_line_spec : {M : Type 1} → statement M
+read_line_spec =
     tie.close
     (tie.spec
     skip-blanks-requires

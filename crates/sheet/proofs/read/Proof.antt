@@ -22,36 +22,36 @@ both s r e = (record { reading = reading_of s; right = reading-right s; image = 
 refused-requires : tie.Need-refused-requires
 refused-requires c κs = search rules
 
-returns : tie.Need-returns
-returns c = both c.before.before.before.args.s.now _ (c.refused.ensures ∙ ap sheet_of (sym (too_long c.before.before.before.args.s.now c.before.if1.true)))
+returns : tie.Need-returns-then-s-gt-SHEET_MOST
+returns c = both c.args.s.now _ (c.refused.ensures ∙ ap sheet_of (sym (too_long c.args.s.now c.if-s-gt-SHEET_MOST.true)))
 
 peek-requires : tie.Need-peek-requires
 peek-requires c κs = search rules
 
-refused-requires-2 : tie.Need-refused-requires-2
+refused-requires-2 : tie.Need-refused-requires-then-peek-ne60
 refused-requires-2 c κs = search rules
 
-returns-2 : tie.Need-returns-2
-returns-2 c = both c.before.before.before.before.before.args.s.now _ (c.refused2.ensures ∙ ap sheet_of (sym (unbegun c.before.before.before.before.before.args.s.now c.before.before.before.if1.false (λ e. c.before.if2.true (c.before.before.peek.ensures ∙ e)))))
+returns-2 : tie.Need-returns-then-peek-ne60
+returns-2 c = both c.args.s.now _ (c.refused-then-peek-ne60.ensures ∙ ap sheet_of (sym (unbegun c.args.s.now c.if-s-gt-SHEET_MOST.false (λ e. c.if-peek-ne60.true (c.peek.ensures ∙ e)))))
 
-element-requires : tie.Need-element-requires
-element-requires c κs = let h = in-sheet c.before.before.before.before.before.before.args.s.now 0 59 (sym c.before.before.before.peek.ensures ∙ c.before.before.if2.false) in (omega arith, omega arith, c.before.before.before.before.if1.false, omega arith, omega arith, omega arith, refl, refl)
+element-requires : tie.Need-element-came-requires
+element-requires c κs = let h = in-sheet c.args.s.now 0 59 (sym c.peek.ensures ∙ c.if-peek-ne60.false) in (omega arith, omega arith, c.if-s-gt-SHEET_MOST.false, omega arith, omega arith, omega arith, refl, refl)
 
-refused-requires-3 : tie.Need-refused-requires-3
+refused-requires-3 : tie.Need-refused-requires-then-not-came
 refused-requires-3 c κs = search rules
 
-returns-3 : tie.Need-returns-3
-returns-3 c = both c.before.before.before.before.before.before.before.before.before.before.args.s.now _ (c.refused3.ensures ∙ ap sheet_of (sym (outer-stopped c.before.before.before.before.before.before.before.before.before.before.args.s.now c.before.before.before.before.before.before.before.before.if1.false (sym c.before.before.before.before.before.before.before.peek.ensures ∙ c.before.before.before.before.before.before.if2.false) c.before.before.before.element.result c.before.before.before.element.new.1.1.1.1.0 c.before.before.before.element.new.1.1.1.1.1.0 c.before.before.before.element.ensures (not-true _ c.before.if3.true))))
+returns-3 : tie.Need-returns-then-not-came
+returns-3 c = both c.args.s.now _ (c.refused-then-not-came.ensures ∙ ap sheet_of (sym (outer-stopped c.args.s.now c.if-s-gt-SHEET_MOST.false (sym c.peek.ensures ∙ c.if-peek-ne60.false) c.element-came.result c.element-came.new.1.1.1.1.0 c.element-came.new.1.1.1.1.1.0 c.element-came.ensures (not-true _ c.if-not-came.true))))
 
-refused-requires-4 : tie.Need-refused-requires-4
+refused-requires-4 : tie.Need-refused-requires-then-place-s
 refused-requires-4 c κs = search rules
 
-returns-4 : tie.Need-returns-4
-returns-4 c = both c.before.before.before.before.before.before.before.before.before.before.before.args.s.now _ (c.refused4.ensures ∙ ap sheet_of (sym (bytes-behind c.before.before.before.before.before.before.before.before.before.before.before.args.s.now c.before.before.before.before.before.before.before.before.before.if1.false (sym c.before.before.before.before.before.before.before.before.peek.ensures ∙ c.before.before.before.before.before.before.before.if2.false) c.before.before.before.before.element.result c.before.before.before.before.element.new.1.1.1.1.0 c.before.before.before.before.element.new.1.1.1.1.1.0 c.before.before.before.before.element.ensures (not-false _ c.before.before.if3.false) c.before.if4.true)))
+returns-4 : tie.Need-returns-then-place-s
+returns-4 c = both c.args.s.now _ (c.refused-then-place-s.ensures ∙ ap sheet_of (sym (bytes-behind c.args.s.now c.if-s-gt-SHEET_MOST.false (sym c.peek.ensures ∙ c.if-peek-ne60.false) c.element-came.result c.element-came.new.1.1.1.1.0 c.element-came.new.1.1.1.1.1.0 c.element-came.ensures (not-false _ c.if-not-came.false) c.if-place-s.true)))
 
-returns-5 : tie.Need-returns-5
+returns-5 : tie.Need-returns
 unfolding sheet_of
-returns-5 c = both c.before.before.before.before.before.before.before.before.before.before.args.s.now _ (ap sheet_of (sym (all_read c.before.before.before.before.before.before.before.before.before.before.args.s.now c.before.before.before.before.before.before.before.before.if1.false (sym c.before.before.before.before.before.before.before.peek.ensures ∙ c.before.before.before.before.before.before.if2.false) c.before.before.before.element.result c.before.before.before.element.new.1.1.1.1.0 c.before.before.before.element.new.1.1.1.1.1.0 c.before.before.before.element.ensures (not-false _ c.before.if3.false) c.if4.false)))
+returns-5 c = both c.args.s.now _ (ap sheet_of (sym (all_read c.args.s.now c.if-s-gt-SHEET_MOST.false (sym c.peek.ensures ∙ c.if-peek-ne60.false) c.element-came.result c.element-came.new.1.1.1.1.0 c.element-came.new.1.1.1.1.1.0 c.element-came.ensures (not-false _ c.if-not-came.false) c.if-place-s.false)))
 
 pub read_spec : {M : Type 1} → statement M
 read_spec =

@@ -4,11 +4,11 @@ use Rattle.slip.specs.Meaning.{five_bytes}
 use Rattle.slip.proofs.form_of.Statement.{statement}
 use Rattle.slip.proofs.form_of.Tie as tie
 
-returns : tie.Need-returns
-returns c = rw (eq-eqb c.before.args.long five_bytes.long c.if1.true)
+returns : tie.Need-returns-then-long-eq-FIVE_LONG
+returns c = rw (eq-eqb c.args.long five_bytes.long c.if-long-eq-FIVE_LONG.true)
 
-returns-2 : tie.Need-returns-2
-returns-2 c = rw (ne_eqb c.before.args.long five_bytes.long c.if1.false)
+returns-2 : tie.Need-returns
+returns-2 c = rw (ne_eqb c.args.long five_bytes.long c.if-long-eq-FIVE_LONG.false)
 
-pub form-of-spec : {M : Type 1} → statement M
-form-of-spec = tie.close (tie.spec returns returns-2)
+pub form_of_spec : {M : Type 1} → statement M
+form_of_spec = tie.close (tie.spec returns returns-2)

@@ -7,5 +7,5 @@ use Rattle.slip.proofs.of_camt_050.Tie as tie
 returns : tie.Need-returns
 returns c = sym (camt-050-ranges _ c.requires)
 
-pub of-camt-050-spec : {M : Type 1} → statement M
-of-camt-050-spec = tie.close (tie.spec returns)
+pub of_camt_050_spec : {M : Type 1} → statement M
+of_camt_050_spec = tie.close (tie.spec returns)

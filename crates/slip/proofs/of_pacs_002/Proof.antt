@@ -7,5 +7,5 @@ use Rattle.slip.proofs.of_pacs_002.Tie as tie
 returns : tie.Need-returns
 returns c = sym (pacs-002-ranges _ c.requires)
 
-pub of-pacs-002-spec : {M : Type 1} → statement M
-of-pacs-002-spec = tie.close (tie.spec returns)
+pub of_pacs_002_spec : {M : Type 1} → statement M
+of_pacs_002_spec = tie.close (tie.spec returns)

@@ -7,5 +7,5 @@ use Rattle.slip.proofs.of_pacs_008.Tie as tie
 returns : tie.Need-returns
 returns c = sym (pacs-008-ranges _ c.requires)
 
-pub of-pacs-008-spec : {M : Type 1} → statement M
-of-pacs-008-spec = tie.close (tie.spec returns)
+pub of_pacs_008_spec : {M : Type 1} → statement M
+of_pacs_008_spec = tie.close (tie.spec returns)

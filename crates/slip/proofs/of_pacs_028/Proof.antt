@@ -7,5 +7,5 @@ use Rattle.slip.proofs.of_pacs_028.Tie as tie
 returns : tie.Need-returns
 returns c = sym (pacs-028-ranges _ c.requires)
 
-pub of-pacs-028-spec : {M : Type 1} → statement M
-of-pacs-028-spec = tie.close (tie.spec returns)
+pub of_pacs_028_spec : {M : Type 1} → statement M
+of_pacs_028_spec = tie.close (tie.spec returns)

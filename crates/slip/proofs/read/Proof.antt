@@ -10,33 +10,33 @@ use borrow.Author.Rules.{rules}
 use Rattle.slip.proofs.read.Statement.{statement}
 use Rattle.slip.proofs.read.Tie as tie
 
-form-of-requires : tie.Need-form-of-requires
+form-of-requires : tie.Need-form_of-form-requires
 form-of-requires c κs = search rules
 
-long-in-requires : tie.Need-long-in-requires
+long-in-requires : tie.Need-long_in-requires
 long-in-requires c κs = search rules
 
-returns : tie.Need-returns
+returns : tie.Need-returns-then-bytes-long_in
 returns c =
-    let form = c.before.before.form_of in
-    let s = c.before.before.before.before.args.bytes.now in
-    other_length s form.result form.ensures c.before.long-in.result c.before.long-in.ensures c.if1.true
+    let form = c.form_of-form in
+    let s = c.args.bytes.now in
+    other_length s form.result form.ensures c.long_in.result c.long_in.ensures c.if-bytes-long_in.true
 
-number-in-requires : tie.Need-number-in-requires
+number-in-requires : tie.Need-number_in-n-requires
 number-in-requires c κs =
-    omega (arith, long-most c.before.before.form_of.result c.before.long-in.result c.before.long-in.ensures)
+    omega (arith, long-most c.form_of-form.result c.long_in.result c.long_in.ensures)
 
-values-in-requires : tie.Need-values-in-requires
+values-in-requires : tie.Need-values_in-s-requires
 values-in-requires c κs = search rules
 
-spare-zero-requires : tie.Need-spare-zero-requires
+spare-zero-requires : tie.Need-spare_zero-requires
 spare-zero-requires c κs = search rules
 
-is-slip-requires : tie.Need-is-slip-requires
+is-slip-requires : tie.Need-is_slip-requires
 is-slip-requires c κs = search rules
 
 -- the answer by the two tests at the end
-answered : (here : tie.After-is-slip)
+answered : (here : tie.After-is_slip)
     → cond (here.before.spare-zero.result && here.is-slip.result) (Holds here.before.before.values-in.result) NoSlip
     ≡ read_answer here.before.before.before.before.before.before.before.before.args.bytes.now
 answered here =
@@ -50,13 +50,13 @@ answered here =
     number.result values.result zeros.result here.is-slip.result
     number.ensures values.ensures zeros.ensures here.is-slip.ensures
 
-returns-2 : tie.Need-returns-2
+returns-2 : tie.Need-returns-then-spare_zero-is_slip
 returns-2 c =
-    ap (λ (t : Bool). cond t (Holds c.before.before.before.values-in.result) NoSlip) (sym c.if2.true) ∙ answered c.before
+    ap (λ (t : Bool). cond t (Holds c.values_in-s.result) NoSlip) (sym c.if-spare_zero-is_slip.true) ∙ answered c.before
 
-returns-3 : tie.Need-returns-3
+returns-3 : tie.Need-returns
 returns-3 c =
-    ap (λ (t : Bool). cond t (Holds c.before.before.before.values-in.result) NoSlip) (sym c.if2.false) ∙ answered c.before
+    ap (λ (t : Bool). cond t (Holds c.values_in-s.result) NoSlip) (sym c.if-spare_zero-is_slip.false) ∙ answered c.before
 
 pub read_spec : {M : Type 1} → statement M
 read_spec =

@@ -6,81 +6,81 @@ use borrow.Author.Rules.{rules}
 use Rattle.slip.proofs.values_in.Statement.{statement}
 use Rattle.slip.proofs.values_in.Tie as tie
 
-seat-wide-in-requires : tie.Need-seat-wide-in-requires
+seat-wide-in-requires : tie.Need-seat_wide_in-seat_wide-requires
 seat-wide-in-requires c κs = search rules
 
-spare-wide-in-requires : tie.Need-spare-wide-in-requires
+spare-wide-in-requires : tie.Need-spare_wide_in-after_step-requires
 spare-wide-in-requires c κs = search rules
 
 -- the two widths that the form gives are small
-narrow : (c : tie.After-spare-wide-in) → (c.before.seat-wide-in.result < 8) × (c.spare-wide-in.result < 8)
+narrow : (c : tie.After-spare_wide_in-after_step) → (c.before.seat-wide-in.result < 8) × (c.spare-wide-in.result < 8)
 narrow c = (
-  seat-narrow c.before.before.args.form c.before.seat-wide-in.result c.before.seat-wide-in.ensures,
-  spare-narrow c.before.before.args.form c.spare-wide-in.result c.spare-wide-in.ensures,
+  seat-narrow c.args.form c.seat_wide_in-seat_wide.result c.seat_wide_in-seat_wide.ensures,
+  spare-narrow c.args.form c.spare_wide_in-after_step.result c.spare_wide_in-after_step.ensures,
 )
 
-add-after-opening : tie.Need-overflow-add-after-opening
+add-after-opening : tie.Need-overflow_add-after_opening
 add-after-opening c = omega (arith, narrow c)
 
-add-after-seat : tie.Need-overflow-add-after-seat
+add-after-seat : tie.Need-overflow_add-after_seat
 add-after-seat c = omega (arith, narrow c)
 
-add-after-check : tie.Need-overflow-add-after-check
+add-after-check : tie.Need-overflow_add-after_check
 add-after-check c = omega (arith, narrow c)
 
-add-after-status : tie.Need-overflow-add-after-status
+add-after-status : tie.Need-overflow_add-after_status
 add-after-status c = omega (arith, narrow c)
 
-add-t9 : tie.Need-overflow-add-t9
+add-t9 : tie.Need-overflow_add-result
 add-t9 c = omega (arith, narrow c)
 
-shr-t10 : tie.Need-overflow-shr-t10
+shr-t10 : tie.Need-overflow_shr-result
 shr-t10 c = omega (arith, narrow c)
 
-rem-t12 : tie.Need-nonzero-rem-t12
+rem-t12 : tie.Need-nonzero_rem-result
 rem-t12 c = search rules
 
-shr-t13 : tie.Need-overflow-shr-t13
+shr-t13 : tie.Need-overflow_shr-result-2
 shr-t13 c = omega (arith, narrow c)
 
-rem-t15 : tie.Need-nonzero-rem-t15
+rem-t15 : tie.Need-nonzero_rem-result-2
 rem-t15 c = search rules
 
-shr-t16 : tie.Need-overflow-shr-t16
+shr-t16 : tie.Need-overflow_shr-result-3
 shr-t16 c = omega (arith, narrow c)
 
-rem-t18 : tie.Need-nonzero-rem-t18
+rem-t18 : tie.Need-nonzero_rem-result-3
 rem-t18 c = search rules
 
-shr-t19 : tie.Need-overflow-shr-t19
+shr-t19 : tie.Need-overflow_shr-result-4
 shr-t19 c = omega (arith, narrow c)
 
-shl-t20 : tie.Need-overflow-shl-t20
+shl-t20 : tie.Need-overflow_shl-result-4
 shl-t20 c = omega (arith, narrow c)
 
-rem-t21 : tie.Need-nonzero-rem-t21
-rem-t21 c = shifted-some c.before.seat-wide-in.result (narrow c).0
+rem-t21 : tie.Need-nonzero_rem-result-4
+rem-t21 c = shifted-some c.seat_wide_in-seat_wide.result (narrow c).0
 
-shr-t22 : tie.Need-overflow-shr-t22
+shr-t22 : tie.Need-overflow_shr-result-5
 shr-t22 c = omega (arith, narrow c)
 
-rem-t24 : tie.Need-nonzero-rem-t24
+rem-t24 : tie.Need-nonzero_rem-result-5
 rem-t24 c = search rules
 
-shr-t25 : tie.Need-overflow-shr-t25
+shr-t25 : tie.Need-overflow_shr-result-6
 shr-t25 c = omega (arith, narrow c)
 
-rem-t27 : tie.Need-nonzero-rem-t27
+rem-t27 : tie.Need-nonzero_rem-result-6
 rem-t27 c = search rules
 
 returns : tie.Need-returns
 returns c =
-    let at = c.before.before.args in
-    values-held at.form c.before.seat-wide-in.result c.spare-wide-in.result at.n
-    c.before.seat-wide-in.ensures c.spare-wide-in.ensures
+    let at = c.args in
+    values-held at.form c.seat_wide_in-seat_wide.result c.spare_wide_in-after_step.result at.n
+    c.seat_wide_in-seat_wide.ensures c.spare_wide_in-after_step.ensures
 
-pub values-in-spec : {M : Type 1} → statement M
-values-in-spec =
+pub values_in_spec : {M : Type 1} → statement M
+values_in_spec =
     tie.close
     (tie.spec
     seat-wide-in-requires

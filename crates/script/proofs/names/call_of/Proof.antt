@@ -5,103 +5,75 @@ use borrow.Author.Rules.{rules}
 use Rattle.script.proofs.names.call_of.Statement.{statement}
 use Rattle.script.proofs.names.call_of.Tie as tie
 
-slice-aggregate-is-same : tie.Need-slice-aggregate-is-same
-slice-aggregate-is-same c = search rules
-
-is-same-requires : tie.Need-is-same-requires
+is-same-requires : tie.Need-is_same-requires
 is-same-requires c κs = search rules
 
-returns : tie.Need-returns
+returns : tie.Need-returns-then-is_same
 unfolding call_of
-returns c = rw (sym c.before.is_same.ensures ∙ c.if1.true)
+returns c = rw (sym c.is_same.ensures ∙ c.if-is_same.true)
 
-slice-aggregate-is-same-2 : tie.Need-slice-aggregate-is-same-2
-slice-aggregate-is-same-2 c = search rules
-
-is-same-requires-2 : tie.Need-is-same-requires-2
+is-same-requires-2 : tie.Need-is_same-requires-2
 is-same-requires-2 c κs = search rules
 
-returns-2 : tie.Need-returns-2
+returns-2 : tie.Need-returns-then-is_same-2
 unfolding call_of
-returns-2 c = rw (sym c.before.before.before.before.is_same.ensures ∙ c.before.before.before.if1.false, sym c.before.is-same2.ensures ∙ c.if2.true)
+returns-2 c = rw (sym c.is_same.ensures ∙ c.if-is_same.false, sym c.is_same-2.ensures ∙ c.if-is_same-2.true)
 
-slice-aggregate-is-same-3 : tie.Need-slice-aggregate-is-same-3
-slice-aggregate-is-same-3 c = search rules
-
-is-same-requires-3 : tie.Need-is-same-requires-3
+is-same-requires-3 : tie.Need-is_same-requires-3
 is-same-requires-3 c κs = search rules
 
-returns-3 : tie.Need-returns-3
+returns-3 : tie.Need-returns-then-is_same-3
 unfolding call_of
-returns-3 c = rw (sym c.before.before.before.before.before.before.before.is_same.ensures ∙ c.before.before.before.before.before.before.if1.false, sym c.before.before.before.before.is-same2.ensures ∙ c.before.before.before.if2.false, sym c.before.is-same3.ensures ∙ c.if3.true)
+returns-3 c = rw (sym c.is_same.ensures ∙ c.if-is_same.false, sym c.is_same-2.ensures ∙ c.if-is_same-2.false, sym c.is_same-3.ensures ∙ c.if-is_same-3.true)
 
-slice-aggregate-is-same-4 : tie.Need-slice-aggregate-is-same-4
-slice-aggregate-is-same-4 c = search rules
-
-is-same-requires-4 : tie.Need-is-same-requires-4
+is-same-requires-4 : tie.Need-is_same-requires-4
 is-same-requires-4 c κs = search rules
 
-returns-4 : tie.Need-returns-4
+returns-4 : tie.Need-returns-then-is_same-4
 unfolding call_of
-returns-4 c = rw (sym c.before.before.before.before.before.before.before.before.before.before.is_same.ensures ∙ c.before.before.before.before.before.before.before.before.before.if1.false, sym c.before.before.before.before.before.before.before.is-same2.ensures ∙ c.before.before.before.before.before.before.if2.false, sym c.before.before.before.before.is-same3.ensures ∙ c.before.before.before.if3.false, sym c.before.is-same4.ensures ∙ c.if4.true)
+returns-4 c = rw (sym c.is_same.ensures ∙ c.if-is_same.false, sym c.is_same-2.ensures ∙ c.if-is_same-2.false, sym c.is_same-3.ensures ∙ c.if-is_same-3.false, sym c.is_same-4.ensures ∙ c.if-is_same-4.true)
 
-slice-aggregate-is-same-5 : tie.Need-slice-aggregate-is-same-5
-slice-aggregate-is-same-5 c = search rules
-
-is-same-requires-5 : tie.Need-is-same-requires-5
+is-same-requires-5 : tie.Need-is_same-requires-5
 is-same-requires-5 c κs = search rules
 
-returns-5 : tie.Need-returns-5
+returns-5 : tie.Need-returns-then-is_same-5
 unfolding call_of
-returns-5 c = rw (sym c.before.before.before.before.before.before.before.before.before.before.before.before.before.is_same.ensures ∙ c.before.before.before.before.before.before.before.before.before.before.before.before.if1.false, sym c.before.before.before.before.before.before.before.before.before.before.is-same2.ensures ∙ c.before.before.before.before.before.before.before.before.before.if2.false, sym c.before.before.before.before.before.before.before.is-same3.ensures ∙ c.before.before.before.before.before.before.if3.false, sym c.before.before.before.before.is-same4.ensures ∙ c.before.before.before.if4.false, sym c.before.is-same5.ensures ∙ c.if5.true)
+returns-5 c = rw (sym c.is_same.ensures ∙ c.if-is_same.false, sym c.is_same-2.ensures ∙ c.if-is_same-2.false, sym c.is_same-3.ensures ∙ c.if-is_same-3.false, sym c.is_same-4.ensures ∙ c.if-is_same-4.false, sym c.is_same-5.ensures ∙ c.if-is_same-5.true)
 
-slice-aggregate-is-same-6 : tie.Need-slice-aggregate-is-same-6
-slice-aggregate-is-same-6 c = search rules
-
-is-same-requires-6 : tie.Need-is-same-requires-6
+is-same-requires-6 : tie.Need-is_same-requires-6
 is-same-requires-6 c κs = search rules
 
-returns-6 : tie.Need-returns-6
+returns-6 : tie.Need-returns-then-is_same-6
 unfolding call_of
-returns-6 c = rw (sym c.before.before.before.before.before.before.before.before.before.before.before.before.before.before.before.before.is_same.ensures ∙ c.before.before.before.before.before.before.before.before.before.before.before.before.before.before.before.if1.false, sym c.before.before.before.before.before.before.before.before.before.before.before.before.before.is-same2.ensures ∙ c.before.before.before.before.before.before.before.before.before.before.before.before.if2.false, sym c.before.before.before.before.before.before.before.before.before.before.is-same3.ensures ∙ c.before.before.before.before.before.before.before.before.before.if3.false, sym c.before.before.before.before.before.before.before.is-same4.ensures ∙ c.before.before.before.before.before.before.if4.false, sym c.before.before.before.before.is-same5.ensures ∙ c.before.before.before.if5.false, sym c.before.is-same6.ensures ∙ c.if6.true)
+returns-6 c = rw (sym c.is_same.ensures ∙ c.if-is_same.false, sym c.is_same-2.ensures ∙ c.if-is_same-2.false, sym c.is_same-3.ensures ∙ c.if-is_same-3.false, sym c.is_same-4.ensures ∙ c.if-is_same-4.false, sym c.is_same-5.ensures ∙ c.if-is_same-5.false, sym c.is_same-6.ensures ∙ c.if-is_same-6.true)
 
-slice-aggregate-is-same-7 : tie.Need-slice-aggregate-is-same-7
-slice-aggregate-is-same-7 c = search rules
-
-is-same-requires-7 : tie.Need-is-same-requires-7
+is-same-requires-7 : tie.Need-is_same-requires-7
 is-same-requires-7 c κs = search rules
 
-returns-7 : tie.Need-returns-7
+returns-7 : tie.Need-returns-then-is_same-7
 unfolding call_of
-returns-7 c = rw (sym c.before.before.before.before.before.before.before.before.before.before.before.before.before.before.before.before.before.before.before.is_same.ensures ∙ c.before.before.before.before.before.before.before.before.before.before.before.before.before.before.before.before.before.before.if1.false, sym c.before.before.before.before.before.before.before.before.before.before.before.before.before.before.before.before.is-same2.ensures ∙ c.before.before.before.before.before.before.before.before.before.before.before.before.before.before.before.if2.false, sym c.before.before.before.before.before.before.before.before.before.before.before.before.before.is-same3.ensures ∙ c.before.before.before.before.before.before.before.before.before.before.before.before.if3.false, sym c.before.before.before.before.before.before.before.before.before.before.is-same4.ensures ∙ c.before.before.before.before.before.before.before.before.before.if4.false, sym c.before.before.before.before.before.before.before.is-same5.ensures ∙ c.before.before.before.before.before.before.if5.false, sym c.before.before.before.before.is-same6.ensures ∙ c.before.before.before.if6.false, sym c.before.is-same7.ensures ∙ c.if7.true)
+returns-7 c = rw (sym c.is_same.ensures ∙ c.if-is_same.false, sym c.is_same-2.ensures ∙ c.if-is_same-2.false, sym c.is_same-3.ensures ∙ c.if-is_same-3.false, sym c.is_same-4.ensures ∙ c.if-is_same-4.false, sym c.is_same-5.ensures ∙ c.if-is_same-5.false, sym c.is_same-6.ensures ∙ c.if-is_same-6.false, sym c.is_same-7.ensures ∙ c.if-is_same-7.true)
 
-returns-8 : tie.Need-returns-8
+returns-8 : tie.Need-returns
 unfolding call_of
-returns-8 c = rw (sym c.before.before.before.before.before.before.before.before.before.before.before.before.before.before.before.before.before.before.before.is_same.ensures ∙ c.before.before.before.before.before.before.before.before.before.before.before.before.before.before.before.before.before.before.if1.false, sym c.before.before.before.before.before.before.before.before.before.before.before.before.before.before.before.before.is-same2.ensures ∙ c.before.before.before.before.before.before.before.before.before.before.before.before.before.before.before.if2.false, sym c.before.before.before.before.before.before.before.before.before.before.before.before.before.is-same3.ensures ∙ c.before.before.before.before.before.before.before.before.before.before.before.before.if3.false, sym c.before.before.before.before.before.before.before.before.before.before.is-same4.ensures ∙ c.before.before.before.before.before.before.before.before.before.if4.false, sym c.before.before.before.before.before.before.before.is-same5.ensures ∙ c.before.before.before.before.before.before.if5.false, sym c.before.before.before.before.is-same6.ensures ∙ c.before.before.before.if6.false, sym c.before.is-same7.ensures ∙ c.if7.false)
+returns-8 c = rw (sym c.is_same.ensures ∙ c.if-is_same.false, sym c.is_same-2.ensures ∙ c.if-is_same-2.false, sym c.is_same-3.ensures ∙ c.if-is_same-3.false, sym c.is_same-4.ensures ∙ c.if-is_same-4.false, sym c.is_same-5.ensures ∙ c.if-is_same-5.false, sym c.is_same-6.ensures ∙ c.if-is_same-6.false, sym c.is_same-7.ensures ∙ c.if-is_same-7.false)
 
-pub call-of-spec : {M : Type 1} → statement M
-call-of-spec =
+pub call_of_spec : {M : Type 1} → statement M
+call_of_spec =
     tie.close
     (tie.spec
-    slice-aggregate-is-same
     is-same-requires
     returns
-    slice-aggregate-is-same-2
     is-same-requires-2
     returns-2
-    slice-aggregate-is-same-3
     is-same-requires-3
     returns-3
-    slice-aggregate-is-same-4
     is-same-requires-4
     returns-4
-    slice-aggregate-is-same-5
     is-same-requires-5
     returns-5
-    slice-aggregate-is-same-6
     is-same-requires-6
     returns-6
-    slice-aggregate-is-same-7
     is-same-requires-7
     returns-7
     returns-8)

@@ -8,39 +8,39 @@ use Rattle.script.proofs.Runs.{byte-stop, byte-on, byte-end}
 use Rattle.script.proofs.text.find.Statement.{statement}
 use Rattle.script.proofs.text.find.Tie as tie
 
-abbrev invariant-loop : tie.invariant-loop
-invariant-loop s from b i₀ i = found s from b ≡ found s i b
+abbrev invariant-loop-i : tie.invariant-loop-i
+invariant-loop-i s from b i₀ i = found s from b ≡ found s i b
 
-abbrev decreases-loop : tie.decreases-loop
-decreases-loop s from b i₀ i = length s - i
+abbrev decreases-loop-i : tie.decreases-loop-i
+decreases-loop-i s from b i₀ i = length s - i
 
-loop-holds : tie.Need-loop-init invariant-loop decreases-loop
+loop-holds : tie.Need-loop-i-init invariant-loop-i decreases-loop-i
 loop-holds c = refl
 
-shared-slice-read-if1 : tie.Need-shared-slice-read-if1 invariant-loop decreases-loop
+shared-slice-read-if1 : tie.Need-bounds-s-i invariant-loop-i decreases-loop-i
 shared-slice-read-if1 c = omega arith
 
-returns : tie.Need-returns invariant-loop decreases-loop
-returns c = sym (c.before.before.before.loop.invariant ∙ byte-stop c.before.before.before.before.args.s.now c.before.before.before.loop.i c.before.before.before.before.args.b (omega arith) c.if1.true)
+returns : tie.Need-returns-then-s-i invariant-loop-i decreases-loop-i
+returns c = sym (c.loop-i.invariant ∙ byte-stop c.args.s.now c.loop-i.i c.args.b (omega arith) c.if-s-i.true)
 
-add-i : tie.Need-overflow-add-i invariant-loop decreases-loop
+add-i : tie.Need-overflow_add-i invariant-loop-i decreases-loop-i
 add-i c = omega arith
 
-loop-less : tie.Need-loop-smaller invariant-loop decreases-loop
+loop-less : tie.Need-loop-i-smaller invariant-loop-i decreases-loop-i
 loop-less c = omega arith
 
-loop-again : tie.Need-loop-preserved invariant-loop decreases-loop
-loop-again c = c.before.before.before.loop.invariant ∙ byte-on c.before.before.before.before.args.s.now c.before.before.before.loop.i c.before.before.before.before.args.b (omega arith) c.if1.false
+loop-again : tie.Need-loop-i-preserved invariant-loop-i decreases-loop-i
+loop-again c = c.loop-i.invariant ∙ byte-on c.args.s.now c.loop-i.i c.args.b (omega arith) c.if-s-i.false
 
-returns-2 : tie.Need-returns-2 invariant-loop decreases-loop
-returns-2 c = sym (c.before.loop.invariant ∙ byte-end c.before.before.args.s.now c.before.loop.i c.before.before.args.b (omega arith))
+returns-2 : tie.Need-returns invariant-loop-i decreases-loop-i
+returns-2 c = sym (c.loop-i.invariant ∙ byte-end c.args.s.now c.loop-i.i c.args.b (omega arith))
 
 pub find_spec : {M : Type 1} → statement M
 find_spec =
     tie.close
     (tie.spec
-    invariant-loop
-    decreases-loop
+    invariant-loop-i
+    decreases-loop-i
     loop-holds
     shared-slice-read-if1
     returns

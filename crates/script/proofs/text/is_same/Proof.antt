@@ -8,45 +8,45 @@ use Rattle.script.proofs.Runs.{other_length, same-on, same_stop, same_end}
 use Rattle.script.proofs.text.is_same.Statement.{statement}
 use Rattle.script.proofs.text.is_same.Tie as tie
 
-abbrev invariant-loop : tie.invariant-loop
-invariant-loop name s i₀ i = (length name ≡ length s) × (i ≤ length s) × (is_same name s ≡ is_same (drop i name) (drop i s))
+abbrev invariant-loop-i : tie.invariant-loop-i
+invariant-loop-i name s i₀ i = (length name ≡ length s) × (i ≤ length s) × (is_same name s ≡ is_same (drop i name) (drop i s))
 
-abbrev decreases-loop : tie.decreases-loop
-decreases-loop name s i₀ i = length s - i
+abbrev decreases-loop-i : tie.decreases-loop-i
+decreases-loop-i name s i₀ i = length s - i
 
-returns : tie.Need-returns invariant-loop decreases-loop
-returns c = sym (other_length _ _ c.if1.true)
+returns : tie.Need-returns-then-name-s invariant-loop-i decreases-loop-i
+returns c = sym (other_length _ _ c.if-name-s.true)
 
-loop-holds : tie.Need-loop-init invariant-loop decreases-loop
+loop-holds : tie.Need-loop-i-init invariant-loop-i decreases-loop-i
 loop-holds c = (omega arith, omega arith, refl)
 
-shared-slice-read-if2 : tie.Need-shared-slice-read-if2 invariant-loop decreases-loop
+shared-slice-read-if2 : tie.Need-bounds-name-i invariant-loop-i decreases-loop-i
 shared-slice-read-if2 c = omega arith
 
-shared-slice-read-if2-2 : tie.Need-shared-slice-read-if2-2 invariant-loop decreases-loop
+shared-slice-read-if2-2 : tie.Need-bounds-s-i invariant-loop-i decreases-loop-i
 shared-slice-read-if2-2 c = omega arith
 
-returns-2 : tie.Need-returns-2 invariant-loop decreases-loop
-returns-2 c = sym (c.before.before.before.before.loop.invariant.2 ∙ same_stop c.before.before.before.before.before.before.args.name.now c.before.before.before.before.before.before.args.s.now c.before.before.before.before.loop.i (omega arith) (omega arith) c.if2.true)
+returns-2 : tie.Need-returns-then-name-i invariant-loop-i decreases-loop-i
+returns-2 c = sym (c.loop-i.invariant.2 ∙ same_stop c.args.name.now c.args.s.now c.loop-i.i (omega arith) (omega arith) c.if-name-i.true)
 
-add-i : tie.Need-overflow-add-i invariant-loop decreases-loop
+add-i : tie.Need-overflow_add-i invariant-loop-i decreases-loop-i
 add-i c = omega arith
 
-loop-less : tie.Need-loop-smaller invariant-loop decreases-loop
+loop-less : tie.Need-loop-i-smaller invariant-loop-i decreases-loop-i
 loop-less c = omega arith
 
-loop-again : tie.Need-loop-preserved invariant-loop decreases-loop
-loop-again c = (omega arith, omega arith, c.before.before.before.before.loop.invariant.2 ∙ same-on c.before.before.before.before.before.before.args.name.now c.before.before.before.before.before.before.args.s.now c.before.before.before.before.loop.i (omega arith) (omega arith) c.if2.false)
+loop-again : tie.Need-loop-i-preserved invariant-loop-i decreases-loop-i
+loop-again c = (omega arith, omega arith, c.loop-i.invariant.2 ∙ same-on c.args.name.now c.args.s.now c.loop-i.i (omega arith) (omega arith) c.if-name-i.false)
 
-returns-3 : tie.Need-returns-3 invariant-loop decreases-loop
-returns-3 c = sym (c.before.loop.invariant.2 ∙ same_end c.before.before.before.args.name.now c.before.before.before.args.s.now c.before.loop.i (omega arith) (omega arith))
+returns-3 : tie.Need-returns invariant-loop-i decreases-loop-i
+returns-3 c = sym (c.loop-i.invariant.2 ∙ same_end c.args.name.now c.args.s.now c.loop-i.i (omega arith) (omega arith))
 
-pub is-same-spec : {M : Type 1} → statement M
-is-same-spec =
+pub is_same_spec : {M : Type 1} → statement M
+is_same_spec =
     tie.close
     (tie.spec
-    invariant-loop
-    decreases-loop
+    invariant-loop-i
+    decreases-loop-i
     returns
     loop-holds
     shared-slice-read-if2

@@ -9,42 +9,42 @@ use Rattle.script.proofs.Runs.{blanks-stop, blanks-on, blanks-end}
 use Rattle.script.proofs.text.skip_blanks.Statement.{statement}
 use Rattle.script.proofs.text.skip_blanks.Tie as tie
 
-abbrev invariant-loop : tie.invariant-loop
-invariant-loop s from i₀ i = skip_blanks s from ≡ skip_blanks s i
+abbrev invariant-loop-i : tie.invariant-loop-i
+invariant-loop-i s from i₀ i = skip_blanks s from ≡ skip_blanks s i
 
-abbrev decreases-loop : tie.decreases-loop
-decreases-loop s from i₀ i = length s - i
+abbrev decreases-loop-i : tie.decreases-loop-i
+decreases-loop-i s from i₀ i = length s - i
 
-loop-holds : tie.Need-loop-init invariant-loop decreases-loop
+loop-holds : tie.Need-loop-i-init invariant-loop-i decreases-loop-i
 loop-holds c = refl
 
-shared-slice-read-is-blank : tie.Need-shared-slice-read-is-blank invariant-loop decreases-loop
+shared-slice-read-is-blank : tie.Need-bounds-s-i invariant-loop-i decreases-loop-i
 shared-slice-read-is-blank c = omega arith
 
-is-blank-requires : tie.Need-is-blank-requires invariant-loop decreases-loop
+is-blank-requires : tie.Need-is_blank-requires invariant-loop-i decreases-loop-i
 is-blank-requires c κs = tt
 
-returns : tie.Need-returns invariant-loop decreases-loop
-returns c = sym (c.before.before.before.before.loop.invariant ∙ blanks-stop c.before.before.before.before.before.before.args.s.now c.before.before.before.before.loop.i (omega arith) (sym c.before.is-blank.ensures ∙ not-true _ c.if1.true))
+returns : tie.Need-returns-then-not-is_blank invariant-loop-i decreases-loop-i
+returns c = sym (c.loop-i.invariant ∙ blanks-stop c.args.s.now c.loop-i.i (omega arith) (sym c.is_blank.ensures ∙ not-true _ c.if-not-is_blank.true-raw))
 
-add-i : tie.Need-overflow-add-i invariant-loop decreases-loop
+add-i : tie.Need-overflow_add-i invariant-loop-i decreases-loop-i
 add-i c = omega arith
 
-loop-less : tie.Need-loop-smaller invariant-loop decreases-loop
+loop-less : tie.Need-loop-i-smaller invariant-loop-i decreases-loop-i
 loop-less c = omega arith
 
-loop-again : tie.Need-loop-preserved invariant-loop decreases-loop
-loop-again c = c.before.before.before.before.loop.invariant ∙ blanks-on c.before.before.before.before.before.before.args.s.now c.before.before.before.before.loop.i (omega arith) (sym c.before.is-blank.ensures ∙ not-false _ c.if1.false)
+loop-again : tie.Need-loop-i-preserved invariant-loop-i decreases-loop-i
+loop-again c = c.loop-i.invariant ∙ blanks-on c.args.s.now c.loop-i.i (omega arith) (sym c.is_blank.ensures ∙ not-false _ c.if-not-is_blank.false-raw)
 
-returns-2 : tie.Need-returns-2 invariant-loop decreases-loop
-returns-2 c = sym (c.before.loop.invariant ∙ blanks-end c.before.before.before.args.s.now c.before.loop.i (omega arith))
+returns-2 : tie.Need-returns invariant-loop-i decreases-loop-i
+returns-2 c = sym (c.loop-i.invariant ∙ blanks-end c.args.s.now c.loop-i.i (omega arith))
 
-pub skip-blanks-spec : {M : Type 1} → statement M
-skip-blanks-spec =
+pub skip_blanks_spec : {M : Type 1} → statement M
+skip_blanks_spec =
     tie.close
     (tie.spec
-    invariant-loop
-    decreases-loop
+    invariant-loop-i
+    decreases-loop-i
     loop-holds
     shared-slice-read-is-blank
     is-blank-requires

@@ -10,42 +10,42 @@ use Rattle.script.proofs.Runs.{end-blank, end-byte, end_none}
 use Rattle.script.proofs.text.text_end.Statement.{statement}
 use Rattle.script.proofs.text.text_end.Tie as tie
 
-abbrev invariant-loop : tie.invariant-loop
-invariant-loop s end₀ end = (end ≤ length s) × (text_end s ≡ text_end (take end s))
+abbrev invariant-loop-end : tie.invariant-loop-end
+invariant-loop-end s end₀ end = (end ≤ length s) × (text_end s ≡ text_end (take end s))
 
-abbrev decreases-loop : tie.decreases-loop
-decreases-loop s end₀ end = end
+abbrev decreases-loop-end : tie.decreases-loop-end
+decreases-loop-end s end₀ end = end
 
-loop-holds : tie.Need-loop-init invariant-loop decreases-loop
-loop-holds c = (omega arith, sym (ap text_end (take-length c.before.args.s.now)))
+loop-holds : tie.Need-loop-end-init invariant-loop-end decreases-loop-end
+loop-holds c = (omega arith, sym (ap text_end (take-length c.args.s.now)))
 
-sub-last : tie.Need-overflow-sub-last invariant-loop decreases-loop
+sub-last : tie.Need-overflow_sub-last invariant-loop-end decreases-loop-end
 sub-last c = omega arith
 
-shared-slice-read-is-blank : tie.Need-shared-slice-read-is-blank invariant-loop decreases-loop
+shared-slice-read-is-blank : tie.Need-bounds-s-last invariant-loop-end decreases-loop-end
 shared-slice-read-is-blank c = omega arith
 
-is-blank-requires : tie.Need-is-blank-requires invariant-loop decreases-loop
+is-blank-requires : tie.Need-is_blank-requires invariant-loop-end decreases-loop-end
 is-blank-requires c κs = tt
 
-returns : tie.Need-returns invariant-loop decreases-loop
-returns c = sym (c.before.before.before.before.loop.invariant.1 ∙ end-byte c.before.before.before.before.before.before.args.s.now c.before.before.before.before.loop.end (omega arith) c.before.before.before.before.loop.invariant.0 (sym c.before.is-blank.ensures ∙ not-true _ c.if1.true))
+returns : tie.Need-returns-then-not-is_blank invariant-loop-end decreases-loop-end
+returns c = sym (c.loop-end.invariant.1 ∙ end-byte c.args.s.now c.loop-end.end (omega arith) c.loop-end.invariant.0 (sym c.is_blank.ensures ∙ not-true _ c.if-not-is_blank.true-raw))
 
-loop-less : tie.Need-loop-smaller invariant-loop decreases-loop
+loop-less : tie.Need-loop-end-smaller invariant-loop-end decreases-loop-end
 loop-less c = omega arith
 
-loop-again : tie.Need-loop-preserved invariant-loop decreases-loop
-loop-again c = (omega arith, c.before.before.before.before.loop.invariant.1 ∙ end-blank c.before.before.before.before.before.before.args.s.now c.before.before.before.before.loop.end (omega arith) c.before.before.before.before.loop.invariant.0 (sym c.before.is-blank.ensures ∙ not-false _ c.if1.false))
+loop-again : tie.Need-loop-end-preserved invariant-loop-end decreases-loop-end
+loop-again c = (omega arith, c.loop-end.invariant.1 ∙ end-blank c.args.s.now c.loop-end.end (omega arith) c.loop-end.invariant.0 (sym c.is_blank.ensures ∙ not-false _ c.if-not-is_blank.false-raw))
 
-returns-2 : tie.Need-returns-2 invariant-loop decreases-loop
-returns-2 c = sym (c.before.loop.invariant.1 ∙ end_none c.before.before.before.args.s.now c.before.loop.end (omega arith))
+returns-2 : tie.Need-returns invariant-loop-end decreases-loop-end
+returns-2 c = sym (c.loop-end.invariant.1 ∙ end_none c.args.s.now c.loop-end.end (omega arith))
 
-pub text-end-spec : {M : Type 1} → statement M
-text-end-spec =
+pub text_end_spec : {M : Type 1} → statement M
+text_end_spec =
     tie.close
     (tie.spec
-    invariant-loop
-    decreases-loop
+    invariant-loop-end
+    decreases-loop-end
     loop-holds
     sub-last
     shared-slice-read-is-blank

@@ -8,42 +8,42 @@ use Rattle.script.proofs.Runs.{word-stop, word_on, word_end_lem}
 use Rattle.script.proofs.text.word_end.Statement.{statement}
 use Rattle.script.proofs.text.word_end.Tie as tie
 
-abbrev invariant-loop : tie.invariant-loop
-invariant-loop s from i₀ i = word_end s from ≡ word_end s i
+abbrev invariant-loop-i : tie.invariant-loop-i
+invariant-loop-i s from i₀ i = word_end s from ≡ word_end s i
 
-abbrev decreases-loop : tie.decreases-loop
-decreases-loop s from i₀ i = length s - i
+abbrev decreases-loop-i : tie.decreases-loop-i
+decreases-loop-i s from i₀ i = length s - i
 
-loop-holds : tie.Need-loop-init invariant-loop decreases-loop
+loop-holds : tie.Need-loop-i-init invariant-loop-i decreases-loop-i
 loop-holds c = refl
 
-shared-slice-read-is-blank : tie.Need-shared-slice-read-is-blank invariant-loop decreases-loop
+shared-slice-read-is-blank : tie.Need-bounds-s-i invariant-loop-i decreases-loop-i
 shared-slice-read-is-blank c = omega arith
 
-is-blank-requires : tie.Need-is-blank-requires invariant-loop decreases-loop
+is-blank-requires : tie.Need-is_blank-requires invariant-loop-i decreases-loop-i
 is-blank-requires c κs = tt
 
-returns : tie.Need-returns invariant-loop decreases-loop
-returns c = sym (c.before.before.before.before.loop.invariant ∙ word-stop c.before.before.before.before.before.before.args.s.now c.before.before.before.before.loop.i (omega arith) (sym c.before.is-blank.ensures ∙ c.if1.true))
+returns : tie.Need-returns-then-is_blank invariant-loop-i decreases-loop-i
+returns c = sym (c.loop-i.invariant ∙ word-stop c.args.s.now c.loop-i.i (omega arith) (sym c.is_blank.ensures ∙ c.if-is_blank.true))
 
-add-i : tie.Need-overflow-add-i invariant-loop decreases-loop
+add-i : tie.Need-overflow_add-i invariant-loop-i decreases-loop-i
 add-i c = omega arith
 
-loop-less : tie.Need-loop-smaller invariant-loop decreases-loop
+loop-less : tie.Need-loop-i-smaller invariant-loop-i decreases-loop-i
 loop-less c = omega arith
 
-loop-again : tie.Need-loop-preserved invariant-loop decreases-loop
-loop-again c = c.before.before.before.before.loop.invariant ∙ word_on c.before.before.before.before.before.before.args.s.now c.before.before.before.before.loop.i (omega arith) (sym c.before.is-blank.ensures ∙ c.if1.false)
+loop-again : tie.Need-loop-i-preserved invariant-loop-i decreases-loop-i
+loop-again c = c.loop-i.invariant ∙ word_on c.args.s.now c.loop-i.i (omega arith) (sym c.is_blank.ensures ∙ c.if-is_blank.false)
 
-returns-2 : tie.Need-returns-2 invariant-loop decreases-loop
-returns-2 c = sym (c.before.loop.invariant ∙ word_end_lem c.before.before.before.args.s.now c.before.loop.i (omega arith))
+returns-2 : tie.Need-returns invariant-loop-i decreases-loop-i
+returns-2 c = sym (c.loop-i.invariant ∙ word_end_lem c.args.s.now c.loop-i.i (omega arith))
 
-pub word-end-spec : {M : Type 1} → statement M
-word-end-spec =
+pub word_end_spec : {M : Type 1} → statement M
+word_end_spec =
     tie.close
     (tie.spec
-    invariant-loop
-    decreases-loop
+    invariant-loop-i
+    decreases-loop-i
     loop-holds
     shared-slice-read-is-blank
     is-blank-requires

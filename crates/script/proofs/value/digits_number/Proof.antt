@@ -9,49 +9,49 @@ use Rattle.script.proofs.Digits.{digit-byte, digit-more, digits-below}
 use Rattle.script.proofs.value.digits_number.Statement.{statement}
 use Rattle.script.proofs.value.digits_number.Tie as tie
 
-abbrev invariant-loop : tie.invariant-loop
-invariant-loop s n₀ i₀ n i = (i ≤ length s) × (decimal s ≡ decimal_from n (drop i s)) × (n < 10 ^ i)
+abbrev invariant-loop-i : tie.invariant-loop-i
+invariant-loop-i s n₀ i₀ n i = (i ≤ length s) × (decimal s ≡ decimal_from n (drop i s)) × (n < 10 ^ i)
 
-abbrev decreases-loop : tie.decreases-loop
-decreases-loop s n₀ i₀ n i = length s - i
+abbrev decreases-loop-i : tie.decreases-loop-i
+decreases-loop-i s n₀ i₀ n i = length s - i
 
-loop-holds : tie.Need-loop-init invariant-loop decreases-loop
+loop-holds : tie.Need-loop-i-init invariant-loop-i decreases-loop-i
 unfolding decimal
 loop-holds c = (omega arith, refl, omega arith)
 
-mul-n : tie.Need-overflow-mul-n invariant-loop decreases-loop
-mul-n c = omega (arith, digits-below c.before.loop.i 18 c.before.loop.n (omega arith) c.before.loop.invariant.2)
+mul-n : tie.Need-overflow_mul-n invariant-loop-i decreases-loop-i
+mul-n c = omega (arith, digits-below c.loop-i.i 18 c.loop-i.n (omega arith) c.loop-i.invariant.2)
 
-shared-slice-read-n : tie.Need-shared-slice-read-n invariant-loop decreases-loop
+shared-slice-read-n : tie.Need-bounds-s-i invariant-loop-i decreases-loop-i
 shared-slice-read-n c = omega arith
 
-sub-n : tie.Need-overflow-sub-n invariant-loop decreases-loop
-sub-n c = omega (arith, (digit-byte c.before.before.before.args.s.now c.before.before.before.requires.1 c.before.before.loop.i (omega arith)).0)
+sub-n : tie.Need-overflow_sub-n invariant-loop-i decreases-loop-i
+sub-n c = omega (arith, (digit-byte c.args.s.now c.requires.1 c.loop-i.i (omega arith)).0)
 
-cast-n : tie.Need-overflow-cast-n invariant-loop decreases-loop
-cast-n c = omega (arith, (digit-byte c.before.before.before.args.s.now c.before.before.before.requires.1 c.before.before.loop.i (omega arith)).1)
+cast-n : tie.Need-overflow_cast-n invariant-loop-i decreases-loop-i
+cast-n c = omega (arith, (digit-byte c.args.s.now c.requires.1 c.loop-i.i (omega arith)).1)
 
-add-n : tie.Need-overflow-add-n invariant-loop decreases-loop
-add-n c = omega (arith, (digit-byte c.before.before.before.args.s.now c.before.before.before.requires.1 c.before.before.loop.i (omega arith)).1, digits-below c.before.before.loop.i 18 c.before.before.loop.n (omega arith) c.before.before.loop.invariant.2)
+add-n : tie.Need-overflow_add-n invariant-loop-i decreases-loop-i
+add-n c = omega (arith, (digit-byte c.args.s.now c.requires.1 c.loop-i.i (omega arith)).1, digits-below c.loop-i.i 18 c.loop-i.n (omega arith) c.loop-i.invariant.2)
 
-add-i : tie.Need-overflow-add-i invariant-loop decreases-loop
+add-i : tie.Need-overflow_add-i invariant-loop-i decreases-loop-i
 add-i c = omega arith
 
-loop-less : tie.Need-loop-smaller invariant-loop decreases-loop
+loop-less : tie.Need-loop-i-smaller invariant-loop-i decreases-loop-i
 loop-less c = omega arith
 
-loop-again : tie.Need-loop-preserved invariant-loop decreases-loop
-loop-again c = (omega arith, c.before.before.loop.invariant.1 ∙ decimal-turn c.before.before.before.args.s.now c.before.before.loop.i c.before.before.loop.n (omega arith), digit-more c.before.before.loop.i c.before.before.loop.n (get_or c.before.before.before.args.s.now c.before.before.loop.i 0 - 48) c.before.before.loop.invariant.2 (omega (arith, (digit-byte c.before.before.before.args.s.now c.before.before.before.requires.1 c.before.before.loop.i (omega arith)).1)))
+loop-again : tie.Need-loop-i-preserved invariant-loop-i decreases-loop-i
+loop-again c = (omega arith, c.loop-i.invariant.1 ∙ decimal-turn c.args.s.now c.loop-i.i c.loop-i.n (omega arith), digit-more c.loop-i.i c.loop-i.n (get_or c.args.s.now c.loop-i.i 0 - 48) c.loop-i.invariant.2 (omega (arith, (digit-byte c.args.s.now c.requires.1 c.loop-i.i (omega arith)).1)))
 
-returns : tie.Need-returns invariant-loop decreases-loop
-returns c = sym (c.before.loop.invariant.1 ∙ decimal-end c.before.before.args.s.now c.before.loop.i c.before.loop.n (omega arith))
+returns : tie.Need-returns invariant-loop-i decreases-loop-i
+returns c = sym (c.loop-i.invariant.1 ∙ decimal-end c.args.s.now c.loop-i.i c.loop-i.n (omega arith))
 
-pub digits-number-spec : {M : Type 1} → statement M
-digits-number-spec =
+pub digits_number_spec : {M : Type 1} → statement M
+digits_number_spec =
     tie.close
     (tie.spec
-    invariant-loop
-    decreases-loop
+    invariant-loop-i
+    decreases-loop-i
     loop-holds
     mul-n
     shared-slice-read-n

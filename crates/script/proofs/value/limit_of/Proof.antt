@@ -7,41 +7,37 @@ use borrow.Author.Rules.{rules}
 use Rattle.script.proofs.value.limit_of.Statement.{statement}
 use Rattle.script.proofs.value.limit_of.Tie as tie
 
-slice-aggregate-is-same : tie.Need-slice-aggregate-is-same
-slice-aggregate-is-same c = search rules
-
-is-same-requires : tie.Need-is-same-requires
+is-same-requires : tie.Need-is_same-requires
 is-same-requires c κs = search rules
 
-returns : tie.Need-returns
+returns : tie.Need-returns-then-is_same
 unfolding limit_of
-returns c = rw (sym c.before.is_same.ensures ∙ c.if1.true)
+returns c = rw (sym c.is_same.ensures ∙ c.if-is_same.true)
 
-sum-of-requires : tie.Need-sum-of-requires
+sum-of-requires : tie.Need-sum_of-requires
 sum-of-requires c κs = search rules
 
-enum-known-n : tie.Need-enum-known-n
+enum-known-n : tie.Need-enum_known-n
 enum-known-n c = search rules
 
-add-t9 : tie.Need-overflow-add-t9
-add-t9 c = omega (arith, sum_below c.before.before.before.before.before.before.before.before.args.s.now c.before.n.given.0.0 (sym c.before.before.before.sum_of.ensures ∙ c.before.n.given.1))
+add-t9 : tie.Need-overflow_add-result
+add-t9 c = omega (arith, sum_below c.args.s.now c.in-Of.n (sym c.sum_of.ensures ∙ c.in-Of.is))
 
-enum_told : tie.Need-enum-told
+enum_told : tie.Need-enum_told-1
 enum_told c = search rules
 
-returns-2 : tie.Need-returns-2
+returns-2 : tie.Need-returns-in-Of
 unfolding limit_of
-returns-2 c = rw (sym c.before.before.before.before.before.is_same.ensures ∙ c.before.before.before.before.if1.false, sym c.before.before.before.sum_of.ensures ∙ c.before.n.given.1)
+returns-2 c = rw (sym c.is_same.ensures ∙ c.if-is_same.false, sym c.sum_of.ensures ∙ c.in-Of.is)
 
-returns-3 : tie.Need-returns-3
+returns-3 : tie.Need-returns-in-None
 unfolding limit_of
-returns-3 c = rw (sym c.before.before.before.before.is_same.ensures ∙ c.before.before.before.if1.false, sym c.before.before.sum_of.ensures ∙ c.enum_told.given.1)
+returns-3 c = rw (sym c.is_same.ensures ∙ c.if-is_same.false, sym c.sum_of.ensures ∙ c.in-None.is)
 
-pub limit-of-spec : {M : Type 1} → statement M
-limit-of-spec =
+pub limit_of_spec : {M : Type 1} → statement M
+limit_of_spec =
     tie.close
     (tie.spec
-    slice-aggregate-is-same
     is-same-requires
     returns
     sum-of-requires

@@ -6,20 +6,20 @@ use borrow.Author.Rules.{rules}
 use Rattle.script.proofs.value.number_of.Statement.{statement}
 use Rattle.script.proofs.value.number_of.Tie as tie
 
-all-within-requires : tie.Need-all-within-requires
+all-within-requires : tie.Need-all_within-requires
 all-within-requires c κs = search rules
 
-digits-number-requires : tie.Need-digits-number-requires
+digits-number-requires : tie.Need-digits_number-requires
 unfolding within
-digits-number-requires c κs = number-tested c.before.before.before.args.s.now c.before.all-within.result c.before.all-within.ensures c.if1.true
+digits-number-requires c κs = number-tested c.args.s.now c.all_within.result c.all_within.ensures c.if-s-all_within.true
 
-returns : tie.Need-returns
+returns : tie.Need-returns-then-s-all_within
 unfolding number_of within
-returns c = rw (← c.before.before.all-within.ensures, c.before.if1.true, ← c.digits_number.ensures)
+returns c = rw (← c.all_within.ensures, c.if-s-all_within.true, ← c.digits_number.ensures)
 
-returns-2 : tie.Need-returns-2
+returns-2 : tie.Need-returns
 unfolding number_of within
-returns-2 c = rw (← c.before.all-within.ensures, c.if1.false)
+returns-2 c = rw (← c.all_within.ensures, c.if-s-all_within.false)
 
-pub number-of-spec : {M : Type 1} → statement M
-number-of-spec = tie.close (tie.spec all-within-requires digits-number-requires returns returns-2)
+pub number_of_spec : {M : Type 1} → statement M
+number_of_spec = tie.close (tie.spec all-within-requires digits-number-requires returns returns-2)

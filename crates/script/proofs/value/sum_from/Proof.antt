@@ -7,38 +7,38 @@ use borrow.Author.Rules.{rules}
 use Rattle.script.proofs.value.sum_from.Statement.{statement}
 use Rattle.script.proofs.value.sum_from.Tie as tie
 
-all-within-requires : tie.Need-all-within-requires
+all-within-requires : tie.Need-all_within-requires
 all-within-requires c κs = search rules
 
-all-within-requires-2 : tie.Need-all-within-requires-2
+all-within-requires-2 : tie.Need-all_within-requires-2
 all-within-requires-2 c κs = search rules
 
-digits-number-requires : tie.Need-digits-number-requires
+digits-number-requires : tie.Need-digits_number-requires
 unfolding within
-digits-number-requires c κs = (omega (arith, units-short c.before.before.before.before.before.args.units.now c.before.before.before.before.before.args.hundredths.now c.before.before.all-within.result c.before.all-within2.result c.before.before.all-within.ensures c.before.all-within2.ensures c.if1.true), units-digits c.before.before.before.before.before.args.units.now c.before.before.before.before.before.args.hundredths.now c.before.before.all-within.result c.before.all-within2.result c.before.before.all-within.ensures c.before.all-within2.ensures c.if1.true)
+digits-number-requires c κs = (omega (arith, units-short c.args.units.now c.args.hundredths.now c.all_within.result c.all_within-2.result c.all_within.ensures c.all_within-2.ensures c.if-units-hundredths.true), units-digits c.args.units.now c.args.hundredths.now c.all_within.result c.all_within-2.result c.all_within.ensures c.all_within-2.ensures c.if-units-hundredths.true)
 
-mul-t16 : tie.Need-overflow-mul-t16
+mul-t16 : tie.Need-overflow_mul-result
 unfolding within
-mul-t16 c = omega (arith, c.digits_number.ensures, units-below c.before.before.before.before.before.before.args.units.now c.before.before.before.before.before.before.args.hundredths.now c.before.before.before.all-within.result c.before.before.all-within2.result c.before.before.before.all-within.ensures c.before.before.all-within2.ensures c.before.if1.true)
+mul-t16 c = omega (arith, c.digits_number.ensures, units-below c.args.units.now c.args.hundredths.now c.all_within.result c.all_within-2.result c.all_within.ensures c.all_within-2.ensures c.if-units-hundredths.true)
 
-digits-number-requires-2 : tie.Need-digits-number-requires-2
+digits-number-requires-2 : tie.Need-digits_number-requires-then-units-hundredths
 unfolding within
-digits-number-requires-2 c κs = (omega (arith, two-hundredths c.before.before.before.before.before.before.args.units.now c.before.before.before.before.before.before.args.hundredths.now c.before.before.before.all-within.result c.before.before.all-within2.result c.before.before.before.all-within.ensures c.before.before.all-within2.ensures c.before.if1.true), hundredths-digits c.before.before.before.before.before.before.args.units.now c.before.before.before.before.before.before.args.hundredths.now c.before.before.before.all-within.result c.before.before.all-within2.result c.before.before.before.all-within.ensures c.before.before.all-within2.ensures c.before.if1.true)
+digits-number-requires-2 c κs = (omega (arith, two-hundredths c.args.units.now c.args.hundredths.now c.all_within.result c.all_within-2.result c.all_within.ensures c.all_within-2.ensures c.if-units-hundredths.true), hundredths-digits c.args.units.now c.args.hundredths.now c.all_within.result c.all_within-2.result c.all_within.ensures c.all_within-2.ensures c.if-units-hundredths.true)
 
-add-t18 : tie.Need-overflow-add-t18
+add-t18 : tie.Need-overflow_add-result
 unfolding within
-add-t18 c = omega (arith, c.before.digits_number.ensures, c.digits-number2.ensures, sum-small c.before.before.before.before.before.before.before.args.units.now c.before.before.before.before.before.before.before.args.hundredths.now c.before.before.before.before.all-within.result c.before.before.before.all-within2.result c.before.before.before.before.all-within.ensures c.before.before.before.all-within2.ensures c.before.before.if1.true)
+add-t18 c = omega (arith, c.digits_number.ensures, c.digits_number-then-units-hundredths.ensures, sum-small c.args.units.now c.args.hundredths.now c.all_within.result c.all_within-2.result c.all_within.ensures c.all_within-2.ensures c.if-units-hundredths.true)
 
-returns : tie.Need-returns
+returns : tie.Need-returns-then-units-hundredths
 unfolding sum_from within
-returns c = rw (← c.before.before.before.before.all-within.ensures, ← c.before.before.before.all-within2.ensures, c.before.before.if1.true, ← c.before.digits_number.ensures, ← c.digits-number2.ensures)
+returns c = rw (← c.all_within.ensures, ← c.all_within-2.ensures, c.if-units-hundredths.true, ← c.digits_number.ensures, ← c.digits_number-then-units-hundredths.ensures)
 
-returns-2 : tie.Need-returns-2
+returns-2 : tie.Need-returns
 unfolding sum_from within
-returns-2 c = rw (← c.before.before.all-within.ensures, ← c.before.all-within2.ensures, c.if1.false)
+returns-2 c = rw (← c.all_within.ensures, ← c.all_within-2.ensures, c.if-units-hundredths.false)
 
-pub sum-from-spec : {M : Type 1} → statement M
-sum-from-spec =
+pub sum_from_spec : {M : Type 1} → statement M
+sum_from_spec =
     tie.close
     (tie.spec
     all-within-requires

@@ -11,71 +11,71 @@ use borrow.Author.Rules.{rules}
 use Rattle.script.proofs.values.take_values.Statement.{statement}
 use Rattle.script.proofs.values.take_values.Tie as tie
 
-abbrev invariant-loop : tie.invariant-loop
-invariant-loop wants s from values₀ count₀ rest₀ values count rest = (count ≤ length wants) × (rest ≤ length s)
+abbrev invariant-loop-count : tie.invariant-loop-count
+invariant-loop-count wants s from values₀ count₀ rest₀ values count rest = (count ≤ length wants) × (rest ≤ length s)
     × (length values ≡ values_most) × (taken wants s from ≡ take_from (drop count wants) s count values rest)
 
-abbrev decreases-loop : tie.decreases-loop
-decreases-loop wants s from values₀ count₀ rest₀ values count rest = length wants - count
+abbrev decreases-loop-count : tie.decreases-loop-count
+decreases-loop-count wants s from values₀ count₀ rest₀ values count rest = length wants - count
 
-loop-holds : tie.Need-loop-init invariant-loop decreases-loop
+loop-holds : tie.Need-loop-count-init invariant-loop-count decreases-loop-count
 unfolding taken
-loop-holds c = (omega arith, c.before.before.requires.1, refl, refl)
+loop-holds c = (omega arith, c.requires.1, refl, refl)
 
-word-end-requires : tie.Need-word-end-requires invariant-loop decreases-loop
+word-end-requires : tie.Need-word_end-end-requires invariant-loop-count decreases-loop-count
 word-end-requires c κs = tt
 
-shared-slice-read-value-of : tie.Need-shared-slice-read-value-of invariant-loop decreases-loop
+shared-slice-read-value-of : tie.Need-bounds-wants-count invariant-loop-count decreases-loop-count
 shared-slice-read-value-of c = omega arith
 
-sub-value-of : tie.Need-overflow-sub-value-of invariant-loop decreases-loop
-sub-value-of c = omega (arith, c.before.word_end.ensures, word-behind c.before.before.before.before.before.before.args.s.now c.before.before.before.loop.rest, word-within c.before.before.before.before.before.before.args.s.now c.before.before.before.loop.rest c.before.before.before.loop.invariant.1)
+sub-value-of : tie.Need-slice_bounds-value_of-count invariant-loop-count decreases-loop-count
+sub-value-of c = omega (arith, c.word_end-end.ensures, word-behind c.args.s.now c.loop-count.rest, word-within c.args.s.now c.loop-count.rest c.loop-count.invariant.1)
 
-part-value-of-start : tie.Need-slice-bounds-value-of-start invariant-loop decreases-loop
-part-value-of-start c = omega (arith, c.before.word_end.ensures, word-behind c.before.before.before.before.before.before.args.s.now c.before.before.before.loop.rest, word-within c.before.before.before.before.before.before.args.s.now c.before.before.before.loop.rest c.before.before.before.loop.invariant.1)
+part-value-of-start : tie.Need-slice_bounds-value_of-start invariant-loop-count decreases-loop-count
+part-value-of-start c = omega (arith, c.word_end-end.ensures, word-behind c.args.s.now c.loop-count.rest, word-within c.args.s.now c.loop-count.rest c.loop-count.invariant.1)
 
-part-value-of-end : tie.Need-slice-bounds-value-of-end invariant-loop decreases-loop
-part-value-of-end c = omega (arith, c.before.word_end.ensures, word-behind c.before.before.before.before.before.before.args.s.now c.before.before.before.loop.rest, word-within c.before.before.before.before.before.before.args.s.now c.before.before.before.loop.rest c.before.before.before.loop.invariant.1)
+part-value-of-end : tie.Need-slice_bounds-value_of-end invariant-loop-count decreases-loop-count
+part-value-of-end c = omega (arith, c.word_end-end.ensures, word-behind c.args.s.now c.loop-count.rest, word-within c.args.s.now c.loop-count.rest c.loop-count.invariant.1)
 
-value-of-requires : tie.Need-value-of-requires invariant-loop decreases-loop
+value-of-requires : tie.Need-value_of-requires invariant-loop-count decreases-loop-count
 value-of-requires c κs = tt
 
-enum-known-n : tie.Need-enum-known-n invariant-loop decreases-loop
+enum-known-n : tie.Need-enum_known-n invariant-loop-count decreases-loop-count
 enum-known-n c = search rules
 
-enum_told : tie.Need-enum-told invariant-loop decreases-loop
+enum_told : tie.Need-enum_told-1 invariant-loop-count decreases-loop-count
 enum_told c = search rules
 
-returns : tie.Need-returns invariant-loop decreases-loop
-returns c = sym (c.before.before.before.before.before.before.before.loop.invariant.3 ∙ take-stop c.before.before.before.before.before.before.before.before.before.before.args.wants.now c.before.before.before.before.before.before.before.before.before.before.args.s.now c.before.before.before.before.before.before.before.loop.count c.before.before.before.before.before.before.before.loop.values c.before.before.before.before.before.before.before.loop.rest (omega arith) (sym (c.before.before.value_of_lem.ensures ∙ rw c.before.before.before.before.before.word_end.ensures) ∙ c.enum_told.given.1))
+returns : tie.Need-returns-in_default invariant-loop-count decreases-loop-count
+returns c = sym (c.loop-count.invariant.3 ∙ take-stop c.args.wants.now c.args.s.now c.loop-count.count c.loop-count.values c.loop-count.rest (omega arith) (sym (c.value_of.ensures ∙ rw c.word_end-end.ensures) ∙ c.in_default.is))
 
-mul-values : tie.Need-overflow-mul-values invariant-loop decreases-loop
+mul-values : tie.Need-offset_bounds-values-count invariant-loop-count decreases-loop-count
 mul-values c = omega arith
 
-array-write-values : tie.Need-array-write-values invariant-loop decreases-loop
+array-write-values : tie.Need-bounds-values-count invariant-loop-count decreases-loop-count
 array-write-values c = omega arith
 
-add-count : tie.Need-overflow-add-count invariant-loop decreases-loop
+add-count : tie.Need-overflow_add-count invariant-loop-count decreases-loop-count
 add-count c = omega arith
 
-skip-blanks-requires : tie.Need-skip-blanks-requires invariant-loop decreases-loop
+skip-blanks-requires : tie.Need-skip_blanks-rest-requires invariant-loop-count decreases-loop-count
 skip-blanks-requires c κs = tt
 
-loop-less : tie.Need-loop-smaller invariant-loop decreases-loop
+loop-less : tie.Need-loop-count-smaller invariant-loop-count decreases-loop-count
 loop-less c = omega arith
 
-loop-again : tie.Need-loop-preserved invariant-loop decreases-loop
-loop-again c = (omega arith, rw (c.skip-blanks.ensures, c.before.before.before.before.before.before.before.word_end.ensures) (next-within c.before.before.before.before.before.before.before.before.before.before.before.before.args.s.now c.before.before.before.before.before.before.before.before.before.loop.rest c.before.before.before.before.before.before.before.before.before.loop.invariant.1), simp length-set c.before.before.before.before.before.before.before.before.before.loop.invariant.2, c.before.before.before.before.before.before.before.before.before.loop.invariant.3 ∙ take_on c.before.before.before.before.before.before.before.before.before.before.before.before.args.wants.now c.before.before.before.before.before.before.before.before.before.before.before.before.args.s.now c.before.before.before.before.before.before.before.before.before.loop.count c.before.before.before.before.before.before.before.before.before.loop.values c.before.before.before.before.before.before.before.before.before.loop.rest c.before.before.n.given.0.0 (omega arith) (sym (c.before.before.before.before.value_of_lem.ensures ∙ rw c.before.before.before.before.before.before.before.word_end.ensures) ∙ c.before.before.n.given.1) ∙ rw (c.skip-blanks.ensures, c.before.before.before.before.before.before.before.word_end.ensures))
+loop-again : tie.Need-loop-count-preserved invariant-loop-count decreases-loop-count
+loop-again c = (omega arith, rw (c.skip_blanks-rest.ensures, c.word_end-end.ensures) (next-within c.args.s.now c.loop-count.rest c.loop-count.invariant.1), simp length-set c.loop-count.invariant.2, c.loop-count.invariant.3 ∙ take_on c.args.wants.now c.args.s.now c.loop-count.count c.loop-count.values c.loop-count.rest c.in-Of.n (omega arith) (sym (c.value_of.ensures ∙ rw c.word_end-end.ensures) ∙ c.in-Of.is) ∙ rw (c.skip_blanks-rest.ensures, c.word_end-end.ensures))
 
-returns-2 : tie.Need-returns-2 invariant-loop decreases-loop
-returns-2 c = sym (c.before.loop.invariant.3 ∙ take-end c.before.before.before.before.args.wants.now c.before.before.before.before.args.s.now c.before.loop.count c.before.loop.values c.before.loop.rest (omega arith))
+returns-2 : tie.Need-returns invariant-loop-count decreases-loop-count
+returns-2 c = sym (c.loop-count.invariant.3 ∙ take-end c.args.wants.now c.args.s.now c.loop-count.count c.loop-count.values c.loop-count.rest (omega arith))
 
-pub take-values-spec : {M : Type 1} → statement M
-take-values-spec =
+pub take_values_spec : {M : Type 1} → statement M
+take_values_spec =
     tie.close
     (tie.spec
-    invariant-loop
-    decreases-loop
+    invariant-loop-count
+    decreases-loop-count
     loop-holds
     word-end-requires
     shared-slice-read-value-of

@@ -5,20 +5,20 @@ use borrow.Author.Rules.{rules}
 use Rattle.sheet.proofs.element.counted.Statement.{statement}
 use Rattle.sheet.proofs.element.counted.Tie as tie
 
-enum-known-went : tie.Need-enum-known-went
+enum-known-went : tie.Need-enum_known-went
 enum-known-went c = search rules
 
-enum-known-went-2 : tie.Need-enum-known-went-2
+enum-known-went-2 : tie.Need-enum_known-went-in-Stopped-1
 enum-known-went-2 c = search rules
 
 stopped-requires : tie.Need-stopped-requires
 stopped-requires c κs = search rules
 
-returns : tie.Need-returns
-returns c = rw c.before.went.given.1
+returns : tie.Need-returns-in-To
+returns c = rw c.in-To.is
 
-returns-2 : tie.Need-returns-2
-returns-2 c = rw c.before.before.went2.given.1 c.stopped.ensures
+returns-2 : tie.Need-returns-in-Stopped
+returns-2 c = rw c.in-Stopped.is c.stopped.ensures
 
 pub counted_spec : {M : Type 1} → statement M
 counted_spec =

@@ -8,81 +8,81 @@ use Rattle.sheet.proofs.Ends.{inside}
 use Rattle.sheet.proofs.parts.closing.Statement.{statement}
 use Rattle.sheet.proofs.parts.closing.Tie as tie
 
-abbrev invariant-loop : tie.invariant-loop
-invariant-loop s at from to n k₀ k = (n ≡ to - from) × (k ≤ n) × (at + k ≤ length s) × EndTo s at from to k
+abbrev invariant-loop-k : tie.invariant-loop-k
+invariant-loop-k s at from to n k₀ k = (n ≡ to - from) × (k ≤ n) × (at + k ≤ length s) × EndTo s at from to k
 
-abbrev decreases-loop : tie.decreases-loop
-decreases-loop s at from to n k₀ k = n - k
+abbrev decreases-loop-k : tie.decreases-loop-k
+decreases-loop-k s at from to n k₀ k = n - k
 
-sub-n : tie.Need-overflow-sub-n invariant-loop decreases-loop
+sub-n : tie.Need-overflow_sub-n invariant-loop-k decreases-loop-k
 sub-n c = omega arith
 
-loop-holds : tie.Need-loop-init invariant-loop decreases-loop
-loop-holds c = (refl, omega arith, omega arith, end-begins c.before.args.s.now c.before.args.at c.before.args.from c.before.args.to c.before.requires.2)
+loop-holds : tie.Need-loop-k-init invariant-loop-k decreases-loop-k
+loop-holds c = (refl, omega arith, omega arith, end-begins c.args.s.now c.args.at c.args.from c.args.to c.requires.2)
 
-add-if1 : tie.Need-overflow-add-if1 invariant-loop decreases-loop
+add-if1 : tie.Need-overflow_add-at invariant-loop-k decreases-loop-k
 add-if1 c = omega arith
 
-add-t10 : tie.Need-overflow-add-t10 invariant-loop decreases-loop
+add-t10 : tie.Need-overflow_add-result invariant-loop-k decreases-loop-k
 add-t10 c = omega arith
 
-returns : tie.Need-returns invariant-loop decreases-loop
-returns c = end-cut c.before.before.before.before.args.s.now c.before.before.before.before.args.at c.before.before.before.before.args.from c.before.before.before.before.args.to c.before.before.before.before.requires.2 c.before.before.loop.k c.before.before.loop.invariant.3 (omega arith) c.if1.true
+returns : tie.Need-returns-then-s-at invariant-loop-k decreases-loop-k
+returns c = end-cut c.args.s.now c.args.at c.args.from c.args.to c.requires.2 c.loop-k.k c.loop-k.invariant.3 (omega arith) c.if-s-at.true
 
-add-if2 : tie.Need-overflow-add-if2 invariant-loop decreases-loop
+add-if2 : tie.Need-overflow_add-at-in-loop-k invariant-loop-k decreases-loop-k
 add-if2 c = omega arith
 
-shared-slice-read-if2 : tie.Need-shared-slice-read-if2 invariant-loop decreases-loop
+shared-slice-read-if2 : tie.Need-bounds-s-at invariant-loop-k decreases-loop-k
 shared-slice-read-if2 c = omega arith
 
-add-if2-2 : tie.Need-overflow-add-if2-2 invariant-loop decreases-loop
+add-if2-2 : tie.Need-overflow_add-from invariant-loop-k decreases-loop-k
 add-if2-2 c = omega arith
 
-shared-slice-read-if2-2 : tie.Need-shared-slice-read-if2-2 invariant-loop decreases-loop
+shared-slice-read-if2-2 : tie.Need-bounds-s-from invariant-loop-k decreases-loop-k
 shared-slice-read-if2-2 c = omega arith
 
-add-t15 : tie.Need-overflow-add-t15 invariant-loop decreases-loop
+add-t15 : tie.Need-overflow_add-result-then-s-at-2 invariant-loop-k decreases-loop-k
 add-t15 c = omega arith
 
-returns-2 : tie.Need-returns-2 invariant-loop decreases-loop
-returns-2 c = end-wrong c.before.before.before.before.before.before.before.args.s.now c.before.before.before.before.before.before.before.args.at c.before.before.before.before.before.before.before.args.from c.before.before.before.before.before.before.before.args.to c.before.before.before.before.before.before.before.requires.2 c.before.before.before.before.before.loop.k c.before.before.before.before.before.loop.invariant.3 (omega arith) c.if2.true
+returns-2 : tie.Need-returns-then-s-at-2 invariant-loop-k decreases-loop-k
+returns-2 c = end-wrong c.args.s.now c.args.at c.args.from c.args.to c.requires.2 c.loop-k.k c.loop-k.invariant.3 (omega arith) c.if-s-at-2.true
 
-add-k : tie.Need-overflow-add-k invariant-loop decreases-loop
+add-k : tie.Need-overflow_add-k invariant-loop-k decreases-loop-k
 add-k c = omega arith
 
-loop-less : tie.Need-loop-smaller invariant-loop decreases-loop
+loop-less : tie.Need-loop-k-smaller invariant-loop-k decreases-loop-k
 loop-less c = omega arith
 
-loop-again : tie.Need-loop-preserved invariant-loop decreases-loop
-loop-again c = (c.before.before.before.before.before.loop.invariant.0, omega arith, omega arith, end-turn c.before.before.before.before.before.before.before.args.s.now c.before.before.before.before.before.before.before.args.at c.before.before.before.before.before.before.before.args.from c.before.before.before.before.before.before.before.args.to c.before.before.before.before.before.before.before.requires.2 c.before.before.before.before.before.loop.k c.before.before.before.before.before.loop.invariant.3 (omega arith) c.before.before.before.if1.false c.if2.false)
+loop-again : tie.Need-loop-k-preserved invariant-loop-k decreases-loop-k
+loop-again c = (c.loop-k.invariant.0, omega arith, omega arith, end-turn c.args.s.now c.args.at c.args.from c.args.to c.requires.2 c.loop-k.k c.loop-k.invariant.3 (omega arith) c.if-s-at.false c.if-s-at-2.false)
 
-add-peek : tie.Need-overflow-add-peek invariant-loop decreases-loop
+add-peek : tie.Need-overflow_add-at-2 invariant-loop-k decreases-loop-k
 add-peek c = omega arith
 
-peek-requires : tie.Need-peek-requires invariant-loop decreases-loop
+peek-requires : tie.Need-peek-requires invariant-loop-k decreases-loop-k
 peek-requires c κs = tt
 
-add-t19 : tie.Need-overflow-add-t19 invariant-loop decreases-loop
+add-t19 : tie.Need-overflow_add-result-then-peek-eq62 invariant-loop-k decreases-loop-k
 add-t19 c = omega arith
 
-add-t20 : tie.Need-overflow-add-t20 invariant-loop decreases-loop
+add-t20 : tie.Need-overflow_add-result-then-peek-eq62-2 invariant-loop-k decreases-loop-k
 add-t20 c = omega arith
 
-returns-3 : tie.Need-returns-3 invariant-loop decreases-loop
-returns-3 c = end-done c.before.before.before.before.before.args.s.now c.before.before.before.before.before.args.at c.before.before.before.before.before.args.from c.before.before.before.before.before.args.to c.before.before.before.before.before.requires.2 (c.before.before.before.before.before.args.to - c.before.before.before.before.before.args.from) c.before.before.before.loop.k c.before.before.before.loop.invariant.0 (omega arith) c.before.before.before.loop.invariant.3 (sym c.before.peek.ensures ∙ c.if3.true)
+returns-3 : tie.Need-returns-then-peek-eq62 invariant-loop-k decreases-loop-k
+returns-3 c = end-done c.args.s.now c.args.at c.args.from c.args.to c.requires.2 (c.args.to - c.args.from) c.loop-k.k c.loop-k.invariant.0 (omega arith) c.loop-k.invariant.3 (sym c.peek.ensures ∙ c.if-peek-eq62.true)
 
-add-t17 : tie.Need-overflow-add-t17 invariant-loop decreases-loop
+add-t17 : tie.Need-overflow_add-result-2 invariant-loop-k decreases-loop-k
 add-t17 c = omega arith
 
-returns-4 : tie.Need-returns-4 invariant-loop decreases-loop
-returns-4 c = end-open c.before.before.before.before.before.args.s.now c.before.before.before.before.before.args.at c.before.before.before.before.before.args.from c.before.before.before.before.before.args.to c.before.before.before.before.before.requires.2 (c.before.before.before.before.before.args.to - c.before.before.before.before.before.args.from) c.before.before.before.loop.k c.before.before.before.loop.invariant.0 (omega arith) c.before.before.before.loop.invariant.3 (λ e. c.if3.false (c.before.peek.ensures ∙ e))
+returns-4 : tie.Need-returns invariant-loop-k decreases-loop-k
+returns-4 c = end-open c.args.s.now c.args.at c.args.from c.args.to c.requires.2 (c.args.to - c.args.from) c.loop-k.k c.loop-k.invariant.0 (omega arith) c.loop-k.invariant.3 (λ e. c.if-peek-eq62.false (c.peek.ensures ∙ e))
 
-pub closing-spec : {M : Type 1} → statement M
-closing-spec =
+pub closing_spec : {M : Type 1} → statement M
+closing_spec =
     tie.close
     (tie.spec
-    invariant-loop
-    decreases-loop
+    invariant-loop-k
+    decreases-loop-k
     sub-n
     loop-holds
     add-if1

@@ -10,51 +10,51 @@ use Rattle.sheet.proofs.Ends.{name-at-end}
 use Rattle.sheet.proofs.parts.name_end.Statement.{statement}
 use Rattle.sheet.proofs.parts.name_end.Tie as tie
 
-abbrev invariant-loop : tie.invariant-loop
-invariant-loop s from i₀ i = NameTo s from i
+abbrev invariant-loop-i : tie.invariant-loop-i
+invariant-loop-i s from i₀ i = NameTo s from i
 
-abbrev decreases-loop : tie.decreases-loop
-decreases-loop s from i₀ i = length s - i
+abbrev decreases-loop-i : tie.decreases-loop-i
+decreases-loop-i s from i₀ i = length s - i
 
-add-i : tie.Need-overflow-add-i invariant-loop decreases-loop
+add-i : tie.Need-overflow_add-i invariant-loop-i decreases-loop-i
 add-i c = omega arith
 
-loop-holds : tie.Need-loop-init invariant-loop decreases-loop
-loop-holds c = name-begins c.before.args.s.now c.before.args.from c.before.requires.0
+loop-holds : tie.Need-loop-i-init invariant-loop-i decreases-loop-i
+loop-holds c = name-begins c.args.s.now c.args.from c.requires.0
 
-sub-if1 : tie.Need-overflow-sub-if1 invariant-loop decreases-loop
+sub-if1 : tie.Need-overflow_sub-i invariant-loop-i decreases-loop-i
 sub-if1 c = omega arith
 
-returns : tie.Need-returns invariant-loop decreases-loop
-returns c = name-full c.before.before.before.before.args.s.now c.before.before.before.before.args.from c.before.before.loop.i c.before.before.loop.invariant c.if1.true
+returns : tie.Need-returns-then-i-from-ge-NAME_MOST invariant-loop-i decreases-loop-i
+returns c = name-full c.args.s.now c.args.from c.loop-i.i c.loop-i.invariant c.if-i-from-ge-NAME_MOST.true
 
-shared-slice-read-is-name-byte : tie.Need-shared-slice-read-is-name-byte invariant-loop decreases-loop
+shared-slice-read-is-name-byte : tie.Need-bounds-s-i invariant-loop-i decreases-loop-i
 shared-slice-read-is-name-byte c = omega arith
 
-is-name-byte-requires : tie.Need-is-name-byte-requires invariant-loop decreases-loop
+is-name-byte-requires : tie.Need-is_name_byte-requires invariant-loop-i decreases-loop-i
 is-name-byte-requires c κs = tt
 
-returns-2 : tie.Need-returns-2 invariant-loop decreases-loop
-returns-2 c = name-ends c.before.before.before.before.before.before.before.args.s.now c.before.before.before.before.before.before.before.args.from c.before.before.before.before.before.loop.i c.before.before.before.before.before.loop.invariant (rw (sym c.before.is-name-byte.ensures ∙ not-true _ c.if2.true))
+returns-2 : tie.Need-returns-then-not-is_name_byte invariant-loop-i decreases-loop-i
+returns-2 c = name-ends c.args.s.now c.args.from c.loop-i.i c.loop-i.invariant (rw (sym c.is_name_byte.ensures ∙ not-true _ c.if-not-is_name_byte.true-raw))
 
-add-i-2 : tie.Need-overflow-add-i-2 invariant-loop decreases-loop
+add-i-2 : tie.Need-overflow_add-i-in-loop-i invariant-loop-i decreases-loop-i
 add-i-2 c = omega arith
 
-loop-less : tie.Need-loop-smaller invariant-loop decreases-loop
+loop-less : tie.Need-loop-i-smaller invariant-loop-i decreases-loop-i
 loop-less c = omega arith
 
-loop-again : tie.Need-loop-preserved invariant-loop decreases-loop
-loop-again c = name-goes c.before.before.before.before.before.before.before.args.s.now c.before.before.before.before.before.before.before.args.from c.before.before.before.before.before.loop.i c.before.before.before.before.before.loop.invariant c.before.before.before.before.loop-test.true c.before.before.before.if1.false (sym c.before.is-name-byte.ensures ∙ not-false _ c.if2.false)
+loop-again : tie.Need-loop-i-preserved invariant-loop-i decreases-loop-i
+loop-again c = name-goes c.args.s.now c.args.from c.loop-i.i c.loop-i.invariant c.loop-i-test.true c.if-i-from-ge-NAME_MOST.false (sym c.is_name_byte.ensures ∙ not-false _ c.if-not-is_name_byte.false-raw)
 
-returns-3 : tie.Need-returns-3 invariant-loop decreases-loop
-returns-3 c = name-at-end c.before.before.before.args.s.now c.before.before.before.args.from c.before.loop.i c.before.loop.invariant c.loop-test.false
+returns-3 : tie.Need-returns invariant-loop-i decreases-loop-i
+returns-3 c = name-at-end c.args.s.now c.args.from c.loop-i.i c.loop-i.invariant c.loop-i-test.false
 
-pub name-end-spec : {M : Type 1} → statement M
-name-end-spec =
+pub name_end_spec : {M : Type 1} → statement M
+name_end_spec =
     tie.close
     (tie.spec
-    invariant-loop
-    decreases-loop
+    invariant-loop-i
+    decreases-loop-i
     add-i
     loop-holds
     sub-if1

@@ -10,41 +10,41 @@ use borrow.Author.Rules.{rules}
 use Rattle.sheet.proofs.reader.next_in.Statement.{statement}
 use Rattle.sheet.proofs.reader.next_in.Tie as tie
 
-peek-requires : tie.Need-peek-requires
+peek-requires : tie.Need-peek-b-requires
 peek-requires c κs = search rules
 
-is-text-requires : tie.Need-is-text-requires
+is-text-requires : tie.Need-is_text-requires
 is-text-requires c κs = search rules
 
-text-bytes-end-requires : tie.Need-text-bytes-end-requires
-text-bytes-end-requires c κs = omega (arith, text-inside c.before.before.before.before.args.sheet.now c.before.before.before.before.args.place (rw c.before.before.peek.ensures at (sym c.before.is-text.ensures ∙ c.if1.true)))
+text-bytes-end-requires : tie.Need-text_bytes_end-requires
+text-bytes-end-requires c κs = omega (arith, text-inside c.args.sheet.now c.args.place (rw c.peek-b.ensures at (sym c.is_text.ensures ∙ c.if-is_text.true)))
 
-returns : tie.Need-returns
-returns c = ap Text c.text-bytes-end.ensures ∙ text-ahead c.before.before.before.before.before.args.sheet.now c.before.before.before.before.before.args.place (rw c.before.before.before.peek.ensures at (sym c.before.before.is-text.ensures ∙ c.before.if1.true))
+returns : tie.Need-returns-then-is_text
+returns c = ap Text c.text_bytes_end.ensures ∙ text-ahead c.args.sheet.now c.args.place (rw c.peek-b.ensures at (sym c.is_text.ensures ∙ c.if-is_text.true))
 
-returns-2 : tie.Need-returns-2
-returns-2 c = other-ahead c.before.before.before.before.before.args.sheet.now c.before.before.before.before.before.args.place (rw c.before.before.before.peek.ensures at (sym c.before.before.is-text.ensures ∙ c.before.if1.false)) (λ e. c.if2.true (c.before.before.before.peek.ensures ∙ e))
+returns-2 : tie.Need-returns-then-b-ne60
+returns-2 c = other-ahead c.args.sheet.now c.args.place (rw c.peek-b.ensures at (sym c.is_text.ensures ∙ c.if-is_text.false)) (λ e. c.if-b-ne60.true (c.peek-b.ensures ∙ e))
 
-add-name : tie.Need-overflow-add-name
-add-name c = omega (arith, in-sheet c.before.before.before.before.before.args.sheet.now c.before.before.before.before.before.args.place 59 (sym c.before.before.before.peek.ensures ∙ c.if2.false), c.before.before.before.before.before.well-formed.0)
+add-name : tie.Need-overflow_add-name
+add-name c = omega (arith, in-sheet c.args.sheet.now c.args.place 59 (sym c.peek-b.ensures ∙ c.if-b-ne60.false), c.before.before.before.before.before.well_formed.0)
 
-peek-requires-2 : tie.Need-peek-requires-2
+peek-requires-2 : tie.Need-peek-requires
 peek-requires-2 c κs = search rules
 
-is-letter-requires : tie.Need-is-letter-requires
+is-letter-requires : tie.Need-is_letter-requires
 is-letter-requires c κs = search rules
 
-returns-3 : tie.Need-returns-3
-returns-3 c = no-name-ahead c.before.before.before.before.before.before.before.before.args.sheet.now c.before.before.before.before.before.before.before.before.args.place (rw c.before.before.before.before.before.before.peek.ensures at (sym c.before.before.before.before.before.is-text.ensures ∙ c.before.before.before.before.if1.false)) (sym c.before.before.before.before.before.before.peek.ensures ∙ c.before.before.before.if2.false) (rw c.before.before.peek2.ensures at (sym c.before.is-letter.ensures ∙ not-true _ c.if3.true))
+returns-3 : tie.Need-returns-then-not-is_letter
+returns-3 c = no-name-ahead c.args.sheet.now c.args.place (rw c.peek-b.ensures at (sym c.is_text.ensures ∙ c.if-is_text.false)) (sym c.peek-b.ensures ∙ c.if-b-ne60.false) (rw c.peek.ensures at (sym c.is_letter.ensures ∙ not-true _ c.if-not-is_letter.true-raw))
 
-name-bytes-end-requires : tie.Need-name-bytes-end-requires
-name-bytes-end-requires c κs = omega (arith, in-sheet c.before.before.before.before.before.before.before.before.args.sheet.now c.before.before.before.before.before.before.before.before.args.place 59 (sym c.before.before.before.before.before.before.peek.ensures ∙ c.before.before.before.if2.false))
+name-bytes-end-requires : tie.Need-name_bytes_end-requires
+name-bytes-end-requires c κs = omega (arith, in-sheet c.args.sheet.now c.args.place 59 (sym c.peek-b.ensures ∙ c.if-b-ne60.false))
 
-returns-4 : tie.Need-returns-4
-returns-4 c = ap Element c.name-bytes-end.ensures ∙ element-ahead c.before.before.before.before.before.before.before.before.before.args.sheet.now c.before.before.before.before.before.before.before.before.before.args.place (rw c.before.before.before.before.before.before.before.peek.ensures at (sym c.before.before.before.before.before.before.is-text.ensures ∙ c.before.before.before.before.before.if1.false)) (sym c.before.before.before.before.before.before.before.peek.ensures ∙ c.before.before.before.before.if2.false) (rw c.before.before.before.peek2.ensures at (sym c.before.before.is-letter.ensures ∙ not-false _ c.before.if3.false))
+returns-4 : tie.Need-returns
+returns-4 c = ap Element c.name_bytes_end.ensures ∙ element-ahead c.args.sheet.now c.args.place (rw c.peek-b.ensures at (sym c.is_text.ensures ∙ c.if-is_text.false)) (sym c.peek-b.ensures ∙ c.if-b-ne60.false) (rw c.peek.ensures at (sym c.is_letter.ensures ∙ not-false _ c.if-not-is_letter.false-raw))
 
-pub next-in-spec : {M : Type 1} → statement M
-next-in-spec =
+pub next_in_spec : {M : Type 1} → statement M
+next_in_spec =
     tie.close
     (tie.spec
     peek-requires

@@ -5,38 +5,38 @@ use borrow.Author.Rules.{rules}
 use Rattle.sheet.proofs.reader.part.Statement.{statement}
 use Rattle.sheet.proofs.reader.part.Tie as tie
 
-slice-aggregate-result : tie.Need-slice-aggregate-result
+slice-aggregate-result : tie.Need-slice_bounds-result-end
 slice-aggregate-result c = search rules
 
-returns : tie.Need-returns
-returns c = part-short c.before.before.args.sheet.now c.before.before.args.start c.before.before.args.length (omega arith)
+returns : tie.Need-returns-then-sheet-start
+returns c = part-short c.args.sheet.now c.args.start c.args.length (omega arith)
 
-sub-if2 : tie.Need-overflow-sub-if2
+sub-if2 : tie.Need-overflow_sub-sheet
 sub-if2 c = search rules
 
-slice-aggregate-result-2 : tie.Need-slice-aggregate-result-2
+slice-aggregate-result-2 : tie.Need-slice_bounds-result-end-then-sheet-start-2
 slice-aggregate-result-2 c = search rules
 
-returns-2 : tie.Need-returns-2
-returns-2 c = part-short c.before.before.before.args.sheet.now c.before.before.before.args.start c.before.before.before.args.length (omega arith)
+returns-2 : tie.Need-returns-then-sheet-start-2
+returns-2 c = part-short c.args.sheet.now c.args.start c.args.length (omega arith)
 
-add-end : tie.Need-overflow-add-end
+add-end : tie.Need-overflow_add-end
 add-end c = search rules
 
-sub-result : tie.Need-overflow-sub-result
+sub-result : tie.Need-slice_bounds-result-count
 sub-result c = search rules
 
-part-result-start : tie.Need-slice-bounds-result-start
+part-result-start : tie.Need-slice_bounds-result-start
 part-result-start c = search rules
 
-part-result-end : tie.Need-slice-bounds-result-end
+part-result-end : tie.Need-slice_bounds-result-end-2
 part-result-end c = search rules
 
-returns-3 : tie.Need-returns-3
-returns-3 c = part-whole c.before.before.before.args.sheet.now c.before.before.before.args.start c.before.before.before.args.length (omega arith)
+returns-3 : tie.Need-returns
+returns-3 c = part-whole c.args.sheet.now c.args.start c.args.length (omega arith)
 
-pub part-spec : {M : Type 1} → statement M
-part-spec =
+pub part_spec : {M : Type 1} → statement M
+part_spec =
     tie.close
     (tie.spec
     slice-aggregate-result
