@@ -37,18 +37,18 @@ is-slip-requires c κs = search rules
 
 -- the answer by the two tests at the end
 answered : (here : tie.After-is_slip)
-    → cond (here.before.spare-zero.result && here.is-slip.result) (Holds here.before.before.values-in.result) NoSlip
-    ≡ read_answer here.before.before.before.before.before.before.before.before.args.bytes.now
+    → cond (here.spare_zero.result && here.is_slip.result) (Holds here.values_in-s.result) NoSlip
+    ≡ read_answer here.args.bytes.now
 answered here =
-    let zeros = here.before.spare-zero in
-    let values = here.before.before.values-in in
-    let number = here.before.before.before.number_in in
-    let at = here.before.before.before.before in
-    let form = at.before.before.form_of in
-    right-length at.before.before.before.before.args.bytes.now form.result form.ensures
-    at.before.long-in.result at.before.long-in.ensures at.if1.false
-    number.result values.result zeros.result here.is-slip.result
-    number.ensures values.ensures zeros.ensures here.is-slip.ensures
+    let zeros = here.spare_zero in
+    let values = here.values_in-s in
+    let number = here.number_in-n in
+    let at = here in
+    let form = at.form_of-form in
+    right-length at.args.bytes.now form.result form.ensures
+    at.long_in.result at.long_in.ensures at.if-bytes-long_in.false
+    number.result values.result zeros.result here.is_slip.result
+    number.ensures values.ensures zeros.ensures here.is_slip.ensures
 
 returns-2 : tie.Need-returns-then-spare_zero-is_slip
 returns-2 c =

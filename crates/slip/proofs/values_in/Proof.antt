@@ -13,7 +13,7 @@ spare-wide-in-requires : tie.Need-spare_wide_in-after_step-requires
 spare-wide-in-requires c κs = search rules
 
 -- the two widths that the form gives are small
-narrow : (c : tie.After-spare_wide_in-after_step) → (c.before.seat-wide-in.result < 8) × (c.spare-wide-in.result < 8)
+narrow : (c : tie.After-spare_wide_in-after_step) → (c.seat_wide_in-seat_wide.result < 8) × (c.spare_wide_in-after_step.result < 8)
 narrow c = (
   seat-narrow c.args.form c.seat_wide_in-seat_wide.result c.seat_wide_in-seat_wide.ensures,
   spare-narrow c.args.form c.spare_wide_in-after_step.result c.spare_wide_in-after_step.ensures,
