@@ -7,36 +7,36 @@ use borrow.Author.Rules.{rules}
 use Rattle.layout.proofs.account.Statement.{statement}
 use Rattle.layout.proofs.account.Tie as tie
 
-mul-from : tie.Need-overflow-mul-from
+mul-from : tie.Need-overflow_mul-from
 mul-from c = search rules
 
-add-from : tie.Need-overflow-add-from
+add-from : tie.Need-overflow_add-from
 add-from c = search rules
 
-add-to : tie.Need-overflow-add-to
+add-to : tie.Need-overflow_add-to
 add-to c = search rules
 
-mul-read-account : tie.Need-overflow-mul-read-account
+mul-read-account : tie.Need-offset_bounds-s-from
 mul-read-account c = search rules
 
-sub-read-account : tie.Need-overflow-sub-read-account
+sub-read-account : tie.Need-slice_bounds-read_account-count
 sub-read-account c = search rules
 
-part-read-account-start : tie.Need-slice-bounds-read-account-start
+part-read-account-start : tie.Need-slice_bounds-read_account-start
 part-read-account-start c = search rules
 
-part-read-account-end : tie.Need-slice-bounds-read-account-end
+part-read-account-end : tie.Need-slice_bounds-read_account-end
 part-read-account-end c = search rules
 
-read-account-requires : tie.Need-read-account-requires
+read-account-requires : tie.Need-read_account-requires
 read-account-requires c κs = search rules
 
 returns : tie.Need-returns
 unfolding account_of
-returns c = c.read-account.ensures ∙ ap account_in (lent c.before.before.before.args.s.now (account_from c.before.before.before.args.i) account_long)
+returns c = c.read_account.ensures ∙ ap account_in (lent c.args.s.now (account_from c.args.i) account_long)
 
-pub account-spec : {M : Type 1} → statement M
-account-spec =
+pub account_spec : {M : Type 1} → statement M
+account_spec =
     tie.close
     (tie.spec
     mul-from

@@ -6,10 +6,10 @@ use Rattle.layout.specs.Seat.{head_of}
 use Rattle.layout.proofs.head.Statement.{statement}
 use Rattle.layout.proofs.head.Tie as tie
 
-slice-aggregate-read-head : tie.Need-slice-aggregate-read-head
+slice-aggregate-read-head : tie.Need-slice_bounds-read_head-end
 slice-aggregate-read-head c = simp length-take (omega arith)
 
-read-head-requires : tie.Need-read-head-requires
+read-head-requires : tie.Need-read_head-requires
 read-head-requires c κs = simp length-take (omega arith)
 
 returns : tie.Need-returns

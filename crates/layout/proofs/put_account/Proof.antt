@@ -8,41 +8,41 @@ use borrow.Author.Rules.{rules}
 use Rattle.layout.proofs.put_account.Statement.{statement}
 use Rattle.layout.proofs.put_account.Tie as tie
 
-mul-from : tie.Need-overflow-mul-from
+mul-from : tie.Need-overflow_mul-from
 mul-from c = search rules
 
-add-from : tie.Need-overflow-add-from
+add-from : tie.Need-overflow_add-from
 add-from c = search rules
 
-add-to : tie.Need-overflow-add-to
+add-to : tie.Need-overflow_add-to
 add-to c = search rules
 
-mul-write-account : tie.Need-overflow-mul-write-account
+mul-write-account : tie.Need-offset_bounds-s-from
 mul-write-account c = search rules
 
-sub-write-account : tie.Need-overflow-sub-write-account
+sub-write-account : tie.Need-slice_bounds-write_account-count
 sub-write-account c = search rules
 
-part-write-account-start : tie.Need-slice-bounds-write-account-start
+part-write-account-start : tie.Need-slice_bounds-write_account-start
 part-write-account-start c = search rules
 
-part-write-account-end : tie.Need-slice-bounds-write-account-end
+part-write-account-end : tie.Need-slice_bounds-write_account-end
 part-write-account-end c = search rules
 
-write-account-requires : tie.Need-write-account-requires
+write-account-requires : tie.Need-write_account-requires
 write-account-requires c κs = search rules
 
-same_length : tie.Need-same-length
+same_length : tie.Need-shape_of-s
 same_length c = search rules
 
 returns : tie.Need-returns
 unfolding with_account
 returns c =
-    given_back c.before.before.before.before.before.args.s.now (account_from c.before.before.before.before.before.args.i) account_long c.before.before.write-account.new.0
-    ∙ ap (put c.before.before.before.before.before.args.s.now (account_from c.before.before.before.before.before.args.i) account_long) c.before.before.write-account.ensures
+    given_back c.args.s.now (account_from c.args.i) account_long c.write_account.new.s
+    ∙ ap (put c.args.s.now (account_from c.args.i) account_long) c.write_account.ensures
 
-pub put-account-spec : {M : Type 1} → statement M
-put-account-spec =
+pub put_account_spec : {M : Type 1} → statement M
+put_account_spec =
     tie.close
     (tie.spec
     mul-from

@@ -8,41 +8,41 @@ use borrow.Author.Rules.{rules}
 use Rattle.layout.proofs.put_step.Statement.{statement}
 use Rattle.layout.proofs.put_step.Tie as tie
 
-mul-from : tie.Need-overflow-mul-from
+mul-from : tie.Need-overflow_mul-from
 mul-from c = search rules
 
-add-from : tie.Need-overflow-add-from
+add-from : tie.Need-overflow_add-from
 add-from c = search rules
 
-add-to : tie.Need-overflow-add-to
+add-to : tie.Need-overflow_add-to
 add-to c = search rules
 
-mul-write-step : tie.Need-overflow-mul-write-step
+mul-write-step : tie.Need-offset_bounds-s-from
 mul-write-step c = search rules
 
-sub-write-step : tie.Need-overflow-sub-write-step
+sub-write-step : tie.Need-slice_bounds-write_step-count
 sub-write-step c = search rules
 
-part-write-step-start : tie.Need-slice-bounds-write-step-start
+part-write-step-start : tie.Need-slice_bounds-write_step-start
 part-write-step-start c = search rules
 
-part-write-step-end : tie.Need-slice-bounds-write-step-end
+part-write-step-end : tie.Need-slice_bounds-write_step-end
 part-write-step-end c = search rules
 
-write-step-requires : tie.Need-write-step-requires
+write-step-requires : tie.Need-write_step-requires
 write-step-requires c κs = search rules
 
-same_length : tie.Need-same-length
+same_length : tie.Need-shape_of-s
 same_length c = search rules
 
 returns : tie.Need-returns
 unfolding with_step
 returns c =
-    given_back c.before.before.before.before.before.args.s.now (step_from c.before.before.before.before.before.args.k) step_long c.before.before.write_step.new.0
-    ∙ ap (put c.before.before.before.before.before.args.s.now (step_from c.before.before.before.before.before.args.k) step_long) c.before.before.write_step.ensures
+    given_back c.args.s.now (step_from c.args.k) step_long c.write_step.new.s
+    ∙ ap (put c.args.s.now (step_from c.args.k) step_long) c.write_step.ensures
 
-pub put-step-spec : {M : Type 1} → statement M
-put-step-spec =
+pub put_step_spec : {M : Type 1} → statement M
+put_step_spec =
     tie.close
     (tie.spec
     mul-from

@@ -7,33 +7,33 @@ use borrow.Author.Rules.{rules}
 use Rattle.layout.proofs.step.Statement.{statement}
 use Rattle.layout.proofs.step.Tie as tie
 
-mul-from : tie.Need-overflow-mul-from
+mul-from : tie.Need-overflow_mul-from
 mul-from c = search rules
 
-add-from : tie.Need-overflow-add-from
+add-from : tie.Need-overflow_add-from
 add-from c = search rules
 
-add-to : tie.Need-overflow-add-to
+add-to : tie.Need-overflow_add-to
 add-to c = search rules
 
-mul-read-step : tie.Need-overflow-mul-read-step
+mul-read-step : tie.Need-offset_bounds-s-from
 mul-read-step c = search rules
 
-sub-read-step : tie.Need-overflow-sub-read-step
+sub-read-step : tie.Need-slice_bounds-read_step-count
 sub-read-step c = search rules
 
-part-read-step-start : tie.Need-slice-bounds-read-step-start
+part-read-step-start : tie.Need-slice_bounds-read_step-start
 part-read-step-start c = search rules
 
-part-read-step-end : tie.Need-slice-bounds-read-step-end
+part-read-step-end : tie.Need-slice_bounds-read_step-end
 part-read-step-end c = search rules
 
-read-step-requires : tie.Need-read-step-requires
+read-step-requires : tie.Need-read_step-requires
 read-step-requires c κs = search rules
 
 returns : tie.Need-returns
 unfolding step_of
-returns c = c.read_step.ensures ∙ ap step_in (lent c.before.before.before.args.s.now (step_from c.before.before.before.args.k) step_long)
+returns c = c.read_step.ensures ∙ ap step_in (lent c.args.s.now (step_from c.args.k) step_long)
 
 pub step_spec : {M : Type 1} → statement M
 step_spec =

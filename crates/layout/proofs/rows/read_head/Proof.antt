@@ -5,19 +5,19 @@ use borrow.Author.Rules.{rules}
 use Rattle.layout.proofs.rows.read_head.Statement.{statement}
 use Rattle.layout.proofs.rows.read_head.Tie as tie
 
-shared-slice-read-t3 : tie.Need-shared-slice-read-t3
+shared-slice-read-t3 : tie.Need-bounds-s-0
 shared-slice-read-t3 c = search rules
 
-shared-slice-read-t5 : tie.Need-shared-slice-read-t5
+shared-slice-read-t5 : tie.Need-bounds-s-1
 shared-slice-read-t5 c = search rules
 
-shared-slice-read-t7 : tie.Need-shared-slice-read-t7
+shared-slice-read-t7 : tie.Need-bounds-s-2
 shared-slice-read-t7 c = search rules
 
 returns : tie.Need-returns
 unfolding head_in
 returns c = refl
 
-pub read-head-spec : {M : Type 1} → statement M
-read-head-spec =
+pub read_head_spec : {M : Type 1} → statement M
+read_head_spec =
     tie.close (tie.spec shared-slice-read-t3 shared-slice-read-t5 shared-slice-read-t7 returns)
