@@ -1,7 +1,7 @@
 #!/usr/bin/env python3
 """Writes all that the tree of paths numbers, from the paths in crates/message/specs/Fields.antt.
 
-The tree has the path of each kind's body, in the order of `bodyOf`, and then of each kind's fields in theirs. Its nodes stand breadth first;
+The tree has the path of each kind's body, in the order of `body_of`, and then of each kind's fields in theirs. Its nodes stand breadth first;
 node 0 is nowhere, node 1 stands above the outer element. Written are the tree's tables, in its definitions and in its code (crates/paths),
 and the node of each body and of each field in the code of crates/message.
 Run it after a change to the paths; with --check it writes nothing, and fails where a file is not what it would write.
@@ -16,6 +16,8 @@ TREE = "crates/paths/specs/Tree.antt"
 TREE_CODE = "crates/paths/src/tree.rt"
 KINDS_CODE = "crates/message/src/kinds.rt"
 LINE_MOST = 120
+# `rt fmt` fills the lines of a list of numbers in code up to here.
+CODE_LINE_MOST = 100
 
 
 def stop(said):
@@ -34,11 +36,11 @@ def once(file, pattern, text, put):
 def read_kinds():
     """For each kind its name, the path of its body, and the paths of its fields."""
     text = (ROOT / FIELDS).read_text()
-    bodies = re.findall(r'^bodyOf (\w+) = pathOf "([^"]+)"$', text, re.M)
-    tables = dict(re.findall(r"^fieldsOf (\w+) = (\w+)$", text, re.M))
+    bodies = re.findall(r'^body_of (\w+) = path_of "([^"]+)"$', text, re.M)
+    tables = dict(re.findall(r"^fields_of (\w+) = (\w+)$", text, re.M))
     lists = {name: re.findall(r'"([^"]+)"', rows) for name, rows in re.findall(r"^(\w+) =\n((?: +.*\n)+)", text, re.M)}
     if not bodies or [kind for kind, _ in bodies] != list(tables):
-        stop(f"{FIELDS}: `bodyOf` and `fieldsOf` have no clauses, or not the same kinds in one order")
+        stop(f"{FIELDS}: `body_of` and `fields_of` have no clauses, or not the same kinds in one order")
     for kind, table in tables.items():
         if not lists.get(table):
             stop(f"{FIELDS}: {table}, the fields of {kind}, is no list of paths")
@@ -68,11 +70,11 @@ def numbered(paths):
     return names, firsts, {path: 1 + place for place, path in enumerate(order)}
 
 
-def in_lines(numbers):
-    """The numbers as a list of the definitions, in lines that are not too long."""
+def in_lines(words, most):
+    """The words in lines that are not too long."""
     lines = ["   "]
-    for word in [f"{n} ∷" for n in numbers] + ["[]"]:
-        if len(lines[-1]) + 1 + len(word) > LINE_MOST:
+    for word in words:
+        if len(lines[-1]) + 1 + len(word) > most:
             lines.append("   ")
         lines[-1] += " " + word
     return "\n".join(lines)
@@ -80,19 +82,20 @@ def in_lines(numbers):
 
 def definitions(text, names, firsts, wide):
     rows = "".join(f'{"    " if k == 0 else "    ∷ "}bytes "{name:{wide}}"\n' for k, name in enumerate(names))
+    list_of = in_lines([f"{n} ∷" for n in firsts] + ["[]"], LINE_MOST)
     text = once(TREE, r"^nodes = \d+$", text, lambda m: f"nodes = {len(names)}")
-    text = once(TREE, r"^nameWide = \d+$", text, lambda m: f"nameWide = {wide}")
+    text = once(TREE, r"^name_wide = \d+$", text, lambda m: f"name_wide = {wide}")
     text = once(TREE, r"^names =\n.*?\[\]$", text, lambda m: f"names =\n{rows}    ∷ []")
-    return once(TREE, r"^firsts =\n.*?\[\]$", text, lambda m: f"firsts =\n{in_lines(firsts)}")
+    return once(TREE, r"^firsts =\n.*?\[\]$", text, lambda m: f"firsts =\n{list_of}")
 
 
 def tree_code(text, names, firsts, wide):
     rows = "".join(f'    *b"{name:{wide}}",\n' for name in names)
-    numbers = "".join(f"    {n},\n" for n in firsts)
+    numbers = in_lines([f"{n}," for n in firsts], CODE_LINE_MOST)
     text = once(TREE_CODE, r"^pub const NODES: usize = \d+;$", text, lambda m: f"pub const NODES: usize = {len(names)};")
     text = once(TREE_CODE, r"^const NAME_WIDE: usize = \d+;$", text, lambda m: f"const NAME_WIDE: usize = {wide};")
     text = once(TREE_CODE, r"^(const NAMES: [^=]*= \[\n).*?^\];$", text, lambda m: f"{m[1]}{rows}];")
-    return once(TREE_CODE, r"^(const FIRSTS: [^=]*= \[\n).*?^\];$", text, lambda m: f"{m[1]}{numbers}];")
+    return once(TREE_CODE, r"^(const FIRSTS: [^=]*= \[\n).*?^\];$", text, lambda m: f"{m[1]}{numbers}\n];")
 
 
 def kinds_code(text, kinds, node):

@@ -30,7 +30,7 @@ use Rattle.demands.specs.Calls.{
 }
 use Rattle.demands.proofs.CallsTied.{Tied}
 use Rattle.damvurit.specs.Flat.{flat_directory}
-use Rattle.damvurit.specs.Boundary.{result, open_result, seven, six, ticket_of, slip_of, wish_of}
+use Rattle.damvurit.specs.Boundary.{result_number, open_result, seven, six, ticket_of, slip_of, wish_of}
 use Rattle.damvurit.proofs.damvurit_lay_out.Kinds as lay-out-kinds
 use Rattle.damvurit.proofs.damvurit_lay_out.Reads as lay-out-reads
 use Rattle.damvurit.proofs.damvurit_open.Kinds as open-kinds
@@ -56,15 +56,15 @@ IsCall form dir call room x left = (x ≡ form (call_told dir call room)) × (le
 
 -- and the slip buffer after it
 abbrev IsCallWithSlip : List Participant → Call → List ℕ → ℕ → List ℕ → List ℕ → Type 0
-IsCallWithSlip dir call room x left slip = (x ≡ result (call_told dir call room)) × ((left ≡ call_room dir call room) × (slip ≡ call_slip dir call room))
+IsCallWithSlip dir call room x left slip = (x ≡ result_number (call_told dir call room)) × ((left ≡ call_room dir call room) × (slip ≡ call_slip dir call room))
 
 -- and the array after it, where what is told has some form
 abbrev IsCallWithArray : (Told → List ℕ) → List Participant → Call → List ℕ → ℕ → List ℕ → List ℕ → Type 0
 IsCallWithArray form dir call room x left array =
-    (x ≡ result (call_told dir call room)) × ((left ≡ call_room dir call room) × (array ≡ form (call_told dir call room)))
+    (x ≡ result_number (call_told dir call room)) × ((left ≡ call_room dir call room) × (array ≡ form (call_told dir call room)))
 
 pub damvurit-lay-out : Tied _ lay-out-kinds.ps lay-out-kinds.r lay-out-reads.Post
-    (λ κs a x e. (x ≡ result (lay_told a.0.now)) × (e.0.now ≡ lay_after a.0.now))
+    (λ κs a x e. (x ≡ result_number (lay_told a.0.now)) × (e.0.now ≡ lay_after a.0.now))
 damvurit-lay-out κs a x e p = p
 
 pub damvurit-open : Tied _ open-kinds.ps open-kinds.r open-reads.Post
@@ -73,13 +73,13 @@ unfolding call_told call_room
 damvurit-open κs a x e p = p
 
 pub damvurit-close : (dir : List Participant) → Tied _ close-kinds.ps close-kinds.r close-reads.Post
-    (λ κs a x e. IsCall result dir (under (ticket_of a.1.0 a.1.1.0) close) a.0.now x e.0.now)
+    (λ κs a x e. IsCall result_number dir (under (ticket_of a.1.0 a.1.1.0) close) a.0.now x e.0.now)
 unfolding call_told act_told call_room act_room
 damvurit-close dir κs a x e p = p
 
 pub damvurit-set : Tied _ set-kinds.ps set-kinds.r set_Reads.Post
     (λ κs a x e. let settings = a.1.1.1.1.1.1 in
-    IsCall result (flat_directory a.1.0.now)
+    IsCall result_number (flat_directory a.1.0.now)
     (under (ticket_of a.1.1.0 a.1.1.1.0) (set a.1.1.1.1.0 a.1.1.1.1.1.0
     (wish_of settings.0 settings.1.0 settings.1.1.0 settings.1.1.1.0)))
     a.0.now x e.0.now)
@@ -95,7 +95,7 @@ unfolding call_told act_told call_room act_room call_slip act_slip
 damvurit-submit κs a x e p = p
 
 pub damvurit-take-back : (dir : List Participant) → Tied _ take-back-kinds.ps take-back-kinds.r take-back-reads.Post
-    (λ κs a x e. IsCall result dir (under (ticket_of a.1.0 a.1.1.0) take_back) a.0.now x e.0.now)
+    (λ κs a x e. IsCall result_number dir (under (ticket_of a.1.0 a.1.1.0) take_back) a.0.now x e.0.now)
 unfolding call_told act_told call_room act_room
 damvurit-take-back dir κs a x e p = p
 

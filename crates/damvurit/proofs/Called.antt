@@ -16,7 +16,7 @@ use Rattle.centre.specs.Calls.{open_told, open_after, set_told, set_after, read_
 use Rattle.centre.specs.Submit.{submit_told, submit_after, submit_slip}
 use Rattle.centre.proofs.LentDirectories.{open_by, set-by, submit-by, read_by}
 use Rattle.damvurit.specs.Flat.{flat_directory}
-use Rattle.damvurit.specs.Boundary.{detail_most, detail_unit, result, opening_in, open_result}
+use Rattle.damvurit.specs.Boundary.{detail_most, detail_unit, result_number, opening_in, open_result}
 use Rattle.damvurit.proofs.Formed.{number-low}
 
 -- the detail of an answer is the one that the call tells
@@ -60,12 +60,12 @@ module _ (s : List ℕ) (g : Gathered) (all : g ≡ gathered (flat_directory s))
 
 -- what opening gives fits, and is the definition's
 module _ (answer : Answer) (t : Told) (e : told answer ≡ t) (none : t.detail ≡ 0) (few : opening_in t ≤ suc openings) (r n : ℕ)
-    (is : r ≡ result (told answer)) (gives : n ≡ opening_in (told answer)) where
+    (is : r ≡ result_number (told answer)) (gives : n ≡ opening_in (told answer)) where
   pub opening-few : n ≤ suc openings
   opening-few = let same : opening_in (told answer) ≡ opening_in t = ap (λ (x : Told). opening_in x) e in omega arith
 
   pub result-few : r ≤ 12
-  unfolding result
+  unfolding result_number
   result-few =
       let same : (told answer).detail ≡ t.detail = ap (λ (x : Told). x.detail) e in
       omega (arith, number-low answer)

@@ -22,7 +22,7 @@ use Rattle.centre.specs.declared.Answer.{Answer}
 use Rattle.centre.specs.declared.Answer.TheVariants.{Opened, Holds, Says}
 use Rattle.centre.specs.Answers.{told, slip_values}
 use Rattle.damvurit.specs.Flat.{flat_good, flat_directory}
-use Rattle.damvurit.specs.Boundary.{detail_unit, out_of, seven, six, open_result, result, limit_of, ltk_of, wish_of}
+use Rattle.damvurit.specs.Boundary.{detail_unit, out_of, seven, six, open_result, result_number, limit_of, ltk_of, wish_of}
 use Rattle.damvurit.proofs.Formed.{number-low}
 
 -- as the two macros of the header read a result
@@ -30,17 +30,17 @@ module _ (answer : Answer) where
   small : (told answer).number < detail_unit
   small = omega (arith, number-low answer)
 
-  pub number-back : result (told answer) % detail_unit ≡ (told answer).number
-  unfolding result
+  pub number-back : result_number (told answer) % detail_unit ≡ (told answer).number
+  unfolding result_number
   number-back = add-mul-mod_self_left (told answer).number detail_unit (told answer).detail ∙ mod-eq_of_lt small
 
-  pub detail-back : result (told answer) / detail_unit ≡ (told answer).detail
-  unfolding result
+  pub detail-back : result_number (told answer) / detail_unit ≡ (told answer).detail
+  unfolding result_number
   detail-back = add-mul-div_left (told answer).number (told answer).detail (omega arith) ∙ rw (div-eq_of_lt small) (omega arith)
 
 -- what is given back comes whole: an opening number, the seven numbers of an account, the six of a slip
 pub opening-whole : (opening : ℕ) → open_result (told (Opened opening)) ≡ detail_unit * opening
-unfolding open_result result told out_of
+unfolding open_result result_number told out_of
 opening-whole opening = omega arith
 
 pub account-whole : (account : Account) → seven (told (Holds account)) ≡ account_row account

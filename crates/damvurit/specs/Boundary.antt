@@ -20,8 +20,8 @@ detail_most = sheet_most
 abbrev pub detail_unit : ℕ
 detail_unit = 256
 
-unfoldable pub result : Told → ℕ
-result t = t.number + detail_unit * t.detail
+unfoldable pub result_number : Told → ℕ
+result_number t = t.number + detail_unit * t.detail
 
 -- what is left in an array that was lent for values: the values, where there are so many. A refusal has none, and leaves zeros
 unfoldable pub out_of : ℕ → Told → List ℕ
@@ -39,7 +39,7 @@ abbrev pub opening_in : Told → ℕ
 opening_in t = get_or (out_of 1 t) 0 0
 
 unfoldable pub open_result : Told → ℕ
-open_result t = result t + detail_unit * opening_in t
+open_result t = result_number t + detail_unit * opening_in t
 
 -- a ticket and a slip by their numbers
 abbrev pub ticket_of : ℕ → ℕ → Ticket

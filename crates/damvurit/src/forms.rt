@@ -1,7 +1,7 @@
 // Answers and wishes in the form in which they go through C. What each form means stands in `specs/Boundary.antt`.
 ghost use Rattle.std.specs.Prelude.{◌≡◌, ◌≤◌};
 ghost use Rattle.centre.specs.Answers.{told};
-ghost use Rattle.damvurit.specs.Boundary.{detail_most, result, seven, six, opening_in, limit_of, ltk_of, wish_of};
+ghost use Rattle.damvurit.specs.Boundary.{detail_most, result_number, seven, six, opening_in, limit_of, ltk_of, wish_of};
 
 use centre::Answer;
 use journal::SUM_MOST;
@@ -13,7 +13,7 @@ pub const DETAIL_UNIT: u64 = 256;
 // The result of a call. No call tells a higher detail than is asked here.
 pub fn result_of(answer: Answer) -> u64
     requires { (told answer).detail ≤ detail_most }
-    ensures* { λ r. ⌜ r ≡ result (told answer) ⌝ }
+    ensures { result ≡ result_number (told answer) }
 {
     match answer {
         Answer::Done => 0,
@@ -37,7 +37,7 @@ pub fn result_of(answer: Answer) -> u64
 
 // The opening number that an answer gives, or 0.
 pub fn opening_in(answer: Answer) -> u64
-    ensures* { λ r. ⌜ r ≡ opening_in (told answer) ⌝ }
+    ensures { result ≡ opening_in (told answer) }
 {
     match answer {
         Answer::Opened(opening) => opening,
@@ -47,7 +47,7 @@ pub fn opening_in(answer: Answer) -> u64
 
 // The seven numbers of the account that an answer gives, or zeros.
 pub fn account_in(answer: Answer) -> [u64; 7]
-    ensures* { λ r. ⌜ r ≡ seven (told answer) ⌝ }
+    ensures { result ≡ seven (told answer) }
 {
     match answer {
         Answer::Holds(a) => {
@@ -62,7 +62,7 @@ pub fn account_in(answer: Answer) -> [u64; 7]
 
 // The six numbers of the slip that an answer gives, or zeros.
 pub fn slip_in(answer: Answer) -> [u64; 6]
-    ensures* { λ r. ⌜ r ≡ six (told answer) ⌝ }
+    ensures { result ≡ six (told answer) }
 {
     match answer {
         Answer::Says(s) => [s.kind, s.status, s.check, s.seat, s.opening, s.step],
@@ -72,7 +72,7 @@ pub fn slip_in(answer: Answer) -> [u64; 6]
 
 // An LPO, of which 0 is none and n + 1 is n.
 fn limit_of(lpo: u64) -> Limit
-    ensures* { λ r. ⌜ r ≡ limit_of lpo ⌝ }
+    ensures { result ≡ limit_of lpo }
 {
     if lpo == 0 {
         return Limit::None;
@@ -82,7 +82,7 @@ fn limit_of(lpo: u64) -> Limit
 
 // An LTK, or one that is too high where a block is neither 0 nor 1.
 fn ltk_of(out: u64, into: u64, ltk: u64) -> u64
-    ensures* { λ r. ⌜ r ≡ ltk_of out into ltk ⌝ }
+    ensures { result ≡ ltk_of out into ltk }
 {
     if (out <= 1) & (into <= 1) {
         return ltk;
@@ -92,7 +92,7 @@ fn ltk_of(out: u64, into: u64, ltk: u64) -> u64
 
 // The wish of a set call.
 pub fn wish_of(out: u64, into: u64, ltk: u64, lpo: u64) -> Wish
-    ensures* { λ r. ⌜ r ≡ wish_of out into ltk lpo ⌝ }
+    ensures { result ≡ wish_of out into ltk lpo }
 {
     Wish {
         out: out == 1,

@@ -1,6 +1,7 @@
-// The C boundary: the calls of the centre for a program in C, as a static library. `include/damvurit.h` says the same to C.
+// The C boundary: the calls of the centre as functions of numbers, in the form in which they go through C. The crate `damvurit_c` exports
+// each of them to C, under the same name and with the same clauses.
 // It adds no rule: each function brings a call's numbers into the centre's form, makes the call and hands on its answer. No function asks
-// anything of its caller but what C's types cannot say, that a pointer reaches as many elements as its length says.
+// anything of its caller.
 // A result is the call's number and 256 times its detail (`specs/Boundary.antt`); a directory is four numbers a record (`specs/Flat.antt`).
 #![tactic(auto)]
 
@@ -14,7 +15,7 @@ ghost use Rattle.centre.specs.Calls.{lay_told, lay_after, open_told, open_after,
 ghost use Rattle.centre.specs.Submit.{submit_told, submit_after, submit_slip};
 ghost use Rattle.centre.specs.Slips.{write_told, read_told as slip_told};
 ghost use Rattle.damvurit.specs.Flat.{flat_directory};
-ghost use Rattle.damvurit.specs.Boundary.{result, open_result, seven, six, ticket_of, slip_of, wish_of};
+ghost use Rattle.damvurit.specs.Boundary.{result_number, open_result, seven, six, ticket_of, slip_of, wish_of};
 
 use centre::{
     Ticket, close_seat, lay_out, open_among, read_among, read_slip, set_among, submit_among,
@@ -26,31 +27,25 @@ use layout::ROOM_LONG;
 use slip::Slip;
 
 // How many numbers a room has.
-// In C: uint64_t damvurit_room_size(void).
-#[unsafe(no_mangle)]
-pub extern "C" fn damvurit_room_size() -> u64
-    ensures* { λ r. ⌜ r ≡ room_long ⌝ }
+pub fn damvurit_room_size() -> u64
+    ensures { result ≡ room_long }
 {
     ROOM_LONG as u64
 }
 
 // Lays out a room.
-// In C: uint64_t damvurit_lay_out(uint64_t *room, size_t n).
-#[unsafe(no_mangle)]
-pub extern "C" fn damvurit_lay_out(room: &mut [u64]) -> u64
-    ensures* r_value { λ r. ⌜ r ≡ result (lay_told room.old) ⌝ }
-    ensures* room_after { λ _. ⌜ room.new ≡ lay_after room.old ⌝ }
+pub fn damvurit_lay_out(room: &mut [u64]) -> u64
+    ensures result_value { result ≡ result_number (lay_told room.old) }
+    ensures room_after { room.new ≡ lay_after room.old }
 {
     let answer = lay_out(room);
     result_of(answer)
 }
 
 // Opens a seat with two sums for each record of the directory. The detail is the opening number.
-// In C: uint64_t damvurit_open(uint64_t *room, size_t n, const uint64_t *dir, size_t d, uint64_t seat, const uint64_t *sums, size_t k).
-#[unsafe(no_mangle)]
-pub extern "C" fn damvurit_open(room: &mut [u64], dir: &[u64], seat: u64, sums: &[u64]) -> u64
-    ensures* r_value { λ r. ⌜ r ≡ open_result (open_told (flat_directory dir.now) seat sums.now room.old) ⌝ }
-    ensures* room_after { λ _. ⌜ room.new ≡ open_after (flat_directory dir.now) seat sums.now room.old ⌝ }
+pub fn damvurit_open(room: &mut [u64], dir: &[u64], seat: u64, sums: &[u64]) -> u64
+    ensures result_value { result ≡ open_result (open_told (flat_directory dir.now) seat sums.now room.old) }
+    ensures room_after { room.new ≡ open_after (flat_directory dir.now) seat sums.now room.old }
 {
     let g = gather_flat(dir);
     let answer = open_among(room, g, seat, sums);
@@ -58,21 +53,16 @@ pub extern "C" fn damvurit_open(room: &mut [u64], dir: &[u64], seat: u64, sums: 
 }
 
 // Closes a seat.
-// In C: uint64_t damvurit_close(uint64_t *room, size_t n, uint64_t seat, uint64_t opening).
-#[unsafe(no_mangle)]
-pub extern "C" fn damvurit_close(room: &mut [u64], seat: u64, opening: u64) -> u64
-    ensures* r_value { λ r. ⌜ r ≡ result (close_told (ticket_of seat opening) room.old) ⌝ }
-    ensures* room_after { λ _. ⌜ room.new ≡ close_after (ticket_of seat opening) room.old ⌝ }
+pub fn damvurit_close(room: &mut [u64], seat: u64, opening: u64) -> u64
+    ensures result_value { result ≡ result_number (close_told (ticket_of seat opening) room.old) }
+    ensures room_after { room.new ≡ close_after (ticket_of seat opening) room.old }
 {
     let answer = close_seat(room, Ticket { seat, opening });
     result_of(answer)
 }
 
 // Sets an account's blocks and limits, as one step. A block is 0 or 1; LPO is 0 for none and n + 1 for n.
-// In C: uint64_t damvurit_set(uint64_t *room, size_t n, const uint64_t *dir, size_t d, uint64_t seat, uint64_t opening, uint64_t owner,
-// uint64_t account, uint64_t block_out, uint64_t block_in, uint64_t ltk, uint64_t lpo).
-#[unsafe(no_mangle)]
-pub extern "C" fn damvurit_set(
+pub fn damvurit_set(
     room: &mut [u64],
     dir: &[u64],
     seat: u64,
@@ -84,8 +74,8 @@ pub extern "C" fn damvurit_set(
     ltk: u64,
     lpo: u64,
 ) -> u64
-    ensures* r_value { λ r. ⌜ r ≡ result (set_told (flat_directory dir.now) (ticket_of seat opening) owner account (wish_of block_out block_in ltk lpo) room.old) ⌝ }
-    ensures* room_after { λ _. ⌜ room.new ≡ set_after (flat_directory dir.now) (ticket_of seat opening) owner account (wish_of block_out block_in ltk lpo) room.old ⌝ }
+    ensures result_value { result ≡ result_number (set_told (flat_directory dir.now) (ticket_of seat opening) owner account (wish_of block_out block_in ltk lpo) room.old) }
+    ensures room_after { room.new ≡ set_after (flat_directory dir.now) (ticket_of seat opening) owner account (wish_of block_out block_in ltk lpo) room.old }
 {
     let g = gather_flat(dir);
     let wish = wish_of(block_out, block_in, ltk, lpo);
@@ -94,10 +84,7 @@ pub extern "C" fn damvurit_set(
 }
 
 // Submits a sheet for a sender on a date (yyyymmdd), and writes its slip. The detail is the place, the field or the check.
-// In C: uint64_t damvurit_submit(uint64_t *room, size_t n, const uint64_t *dir, size_t d, uint64_t seat, uint64_t opening, uint64_t sender,
-// uint64_t date, const uint8_t *sheet, size_t m, uint8_t *slip, size_t l).
-#[unsafe(no_mangle)]
-pub extern "C" fn damvurit_submit(
+pub fn damvurit_submit(
     room: &mut [u64],
     dir: &[u64],
     seat: u64,
@@ -107,9 +94,9 @@ pub extern "C" fn damvurit_submit(
     sheet: &[u8],
     slip: &mut [u8],
 ) -> u64
-    ensures* r_value { λ r. ⌜ r ≡ result (submit_told (flat_directory dir.now) (ticket_of seat opening) sender date sheet.now slip.old room.old) ⌝ }
-    ensures* room_after { λ _. ⌜ room.new ≡ submit_after (flat_directory dir.now) (ticket_of seat opening) sender date sheet.now slip.old room.old ⌝ }
-    ensures* slip_after { λ _. ⌜ slip.new ≡ submit_slip (flat_directory dir.now) (ticket_of seat opening) sender date sheet.now slip.old room.old ⌝ }
+    ensures result_value { result ≡ result_number (submit_told (flat_directory dir.now) (ticket_of seat opening) sender date sheet.now slip.old room.old) }
+    ensures room_after { room.new ≡ submit_after (flat_directory dir.now) (ticket_of seat opening) sender date sheet.now slip.old room.old }
+    ensures slip_after { slip.new ≡ submit_slip (flat_directory dir.now) (ticket_of seat opening) sender date sheet.now slip.old room.old }
 {
     let g = gather_flat(dir);
     let answer = submit_among(room, g, Ticket { seat, opening }, sender, date, sheet, slip);
@@ -117,21 +104,16 @@ pub extern "C" fn damvurit_submit(
 }
 
 // Takes back the last step.
-// In C: uint64_t damvurit_take_back(uint64_t *room, size_t n, uint64_t seat, uint64_t opening).
-#[unsafe(no_mangle)]
-pub extern "C" fn damvurit_take_back(room: &mut [u64], seat: u64, opening: u64) -> u64
-    ensures* r_value { λ r. ⌜ r ≡ result (back_told (ticket_of seat opening) room.old) ⌝ }
-    ensures* room_after { λ _. ⌜ room.new ≡ back_after (ticket_of seat opening) room.old ⌝ }
+pub fn damvurit_take_back(room: &mut [u64], seat: u64, opening: u64) -> u64
+    ensures result_value { result ≡ result_number (back_told (ticket_of seat opening) room.old) }
+    ensures room_after { room.new ≡ back_after (ticket_of seat opening) room.old }
 {
     let answer = take_back(room, Ticket { seat, opening });
     result_of(answer)
 }
 
 // Reads an account: opening sum, balance, turnover, block out, block in, LTK, LPO.
-// In C: uint64_t damvurit_read(const uint64_t *room, size_t n, const uint64_t *dir, size_t d, uint64_t seat, uint64_t opening, uint64_t owner,
-// uint64_t account, uint64_t out[7]).
-#[unsafe(no_mangle)]
-pub extern "C" fn damvurit_read(
+pub fn damvurit_read(
     room: &[u64],
     dir: &[u64],
     seat: u64,
@@ -140,8 +122,8 @@ pub extern "C" fn damvurit_read(
     account: u64,
     out: &mut [u64; 7],
 ) -> u64
-    ensures* r_value { λ r. ⌜ r ≡ result (read_told (flat_directory dir.now) (ticket_of seat opening) owner account room.now) ⌝ }
-    ensures* out_after { λ _. ⌜ out.new ≡ seven (read_told (flat_directory dir.now) (ticket_of seat opening) owner account room.now) ⌝ }
+    ensures result_value { result ≡ result_number (read_told (flat_directory dir.now) (ticket_of seat opening) owner account room.now) }
+    ensures out_after { out.new ≡ seven (read_told (flat_directory dir.now) (ticket_of seat opening) owner account room.now) }
 {
     let g = gather_flat(dir);
     let answer = read_among(room, g, Ticket { seat, opening }, owner, account);
@@ -150,10 +132,7 @@ pub extern "C" fn damvurit_read(
 }
 
 // Writes a slip into the first six bytes of a buffer.
-// In C: uint64_t damvurit_write_slip(uint64_t kind, uint64_t status, uint64_t check, uint64_t seat, uint64_t opening, uint64_t step,
-// uint8_t *slip, size_t l).
-#[unsafe(no_mangle)]
-pub extern "C" fn damvurit_write_slip(
+pub fn damvurit_write_slip(
     kind: u64,
     status: u64,
     check: u64,
@@ -162,8 +141,8 @@ pub extern "C" fn damvurit_write_slip(
     step: u64,
     slip: &mut [u8],
 ) -> u64
-    ensures* r_value { λ r. ⌜ r ≡ result (write_told (slip_of kind status check seat opening step) slip.old) ⌝ }
-    ensures* slip_after { λ _. ⌜ slip.new ≡ write_after (slip_of kind status check seat opening step) slip.old ⌝ }
+    ensures result_value { result ≡ result_number (write_told (slip_of kind status check seat opening step) slip.old) }
+    ensures slip_after { slip.new ≡ write_after (slip_of kind status check seat opening step) slip.old }
 {
     let s = Slip {
         kind,
@@ -178,11 +157,9 @@ pub extern "C" fn damvurit_write_slip(
 }
 
 // Reads a slip: kind, status, check, seat, opening, step.
-// In C: uint64_t damvurit_read_slip(const uint8_t *slip, size_t l, uint64_t out[6]).
-#[unsafe(no_mangle)]
-pub extern "C" fn damvurit_read_slip(slip: &[u8], out: &mut [u64; 6]) -> u64
-    ensures* r_value { λ r. ⌜ r ≡ result (slip_told slip.now) ⌝ }
-    ensures* out_after { λ _. ⌜ out.new ≡ six (slip_told slip.now) ⌝ }
+pub fn damvurit_read_slip(slip: &[u8], out: &mut [u64; 6]) -> u64
+    ensures result_value { result ≡ result_number (slip_told slip.now) }
+    ensures out_after { out.new ≡ six (slip_told slip.now) }
 {
     let answer = read_slip(slip);
     *out = slip_in(answer);

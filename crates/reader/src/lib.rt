@@ -1,4 +1,5 @@
-// The sheet's reader for C: one function that reads a sheet and answers with one number, for the measurements of `bench/`.
+// The sheet's reader in the form in which it goes to C: one function that reads a sheet and answers with one number, for the measurements of
+// `bench/`. The crate `reader_c` exports it to C, under the same name and with the same clause.
 // It does what `sheet::read` does and adds no rule. What the number means stands in `specs/Number.antt`.
 // Which number is wanted is known only when it is called, so the compiler cannot leave out any part of the reading: both lists are filled each time.
 #![tactic(auto)]
@@ -12,11 +13,9 @@ use sheet::ELEMENT_MOST;
 // The number of a sheet that is refused at its first byte; refused at another place, the place is added.
 pub const REFUSED_FROM: u64 = 1_000_000;
 
-// Reads the bytes from a pointer on, so many of them. Below 256 it answers with the start of that element, below 512 with the depth of the
-// element that stands 256 before, and from 512 on with the number of elements, or the place of the refusal and a million.
-// In C: uint64_t damvurit_read_sheet(const uint8_t *sheet, size_t length, size_t which).
-#[unsafe(no_mangle)]
-pub extern "C" fn damvurit_read_sheet(s: &[u8], which: usize) -> u64
+// Reads the bytes. Below 256 it answers with the start of that element, below 512 with the depth of the element that stands 256 before, and
+// from 512 on with the number of elements, or the place of the refusal and a million.
+pub fn damvurit_read_sheet(s: &[u8], which: usize) -> u64
     ensures { result ≡ number_at (reading_of s.now) which }
 {
     let sheet = sheet::read(s);

@@ -1,6 +1,6 @@
 -- The centre's call is this one, and what it tells has no detail.
 use mathlib.Core.Path.{ap, ◌∙◌}
-use Rattle.damvurit.specs.Boundary.{result, ticket_of}
+use Rattle.damvurit.specs.Boundary.{result_number, ticket_of}
 use Rattle.damvurit.proofs.Called.{plain}
 use Rattle.damvurit.proofs.Details.{close-plain}
 use borrow.Author.Rules.{rules}
@@ -17,7 +17,7 @@ same_length : tie.Need-same-length
 same_length c = search rules
 
 returns : tie.Need-returns
-returns c = (c.result-of.ensures ∙ ap result c.before.before.before.close-seat.ensures.0, c.before.before.before.close-seat.ensures.1)
+returns c = (c.result-of.ensures ∙ ap result_number c.before.before.before.close-seat.ensures.0, c.before.before.before.close-seat.ensures.1)
 
 pub damvurit-close-spec : {M : Type 1} → statement M
 damvurit-close-spec = tie.close (tie.spec close-seat-requires result-of-requires same_length returns)

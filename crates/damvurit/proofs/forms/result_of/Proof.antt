@@ -1,7 +1,7 @@
 -- Each arm is a line of the definition of what is told, by its number. A detail that is told is small, so that as many units as it says fit.
 use native.Mathlib.Omega.{arith}
 use Rattle.centre.specs.Answers.{told}
-use Rattle.damvurit.specs.Boundary.{result}
+use Rattle.damvurit.specs.Boundary.{result_number}
 use Rattle.damvurit.proofs.Formed.{place-low, field-low, check-low}
 use borrow.Author.Rules.{rules}
 use Rattle.damvurit.proofs.forms.result_of.Statement.{statement}
@@ -74,67 +74,67 @@ add-result-3 : tie.Need-overflow-add-result-3
 add-result-3 c = let low = check-low _ _ c.before.before.before.requires c.before.answer6.given.1 in omega arith
 
 returns : tie.Need-returns
-unfolding result told
+unfolding result_number told
 returns c = rw c.enum_told.given.1
 
 returns-2 : tie.Need-returns-2
-unfolding result told
+unfolding result_number told
 returns-2 c = rw c.before.answer.given.1
 
 returns-3 : tie.Need-returns-3
-unfolding result told
+unfolding result_number told
 returns-3 c = rw c.before.answer2.given.1
 
 returns-4 : tie.Need-returns-4
-unfolding result told
+unfolding result_number told
 returns-4 c = rw c.before.answer3.given.1
 
 returns-5 : tie.Need-returns-5
-unfolding result told
+unfolding result_number told
 returns-5 c = rw c.enum-told2.given.1
 
 returns-6 : tie.Need-returns-6
-unfolding result told
+unfolding result_number told
 returns-6 c = rw c.enum-told3.given.1
 
 returns-7 : tie.Need-returns-7
-unfolding result told
+unfolding result_number told
 returns-7 c = rw c.enum-told4.given.1
 
 returns-8 : tie.Need-returns-8
-unfolding result told
+unfolding result_number told
 returns-8 c = rw c.enum-told5.given.1
 
 returns-9 : tie.Need-returns-9
-unfolding result told
+unfolding result_number told
 returns-9 c = rw c.enum-told6.given.1
 
 returns-10 : tie.Need-returns-10
-unfolding result told
+unfolding result_number told
 returns-10 c = rw c.enum-told7.given.1
 
 returns-11 : tie.Need-returns-11
-unfolding result told
+unfolding result_number told
 returns-11 c = rw c.before.answer4.given.1
 
 returns-12 : tie.Need-returns-12
-unfolding result told
+unfolding result_number told
 returns-12 c = rw c.before.answer5.given.1
 
 returns-13 : tie.Need-returns-13
-unfolding result told
+unfolding result_number told
 returns-13 c = rw c.enum-told8.given.1
 
 returns-14 : tie.Need-returns-14
-unfolding result told
+unfolding result_number told
 returns-14 c = rw c.enum-told9.given.1
 
 returns-15 : tie.Need-returns-15
-unfolding result told
+unfolding result_number told
 returns-15 c = rw c.enum-told10.given.1
 
 returns-16 : tie.Need-returns-16
-unfolding result told
+unfolding result_number told
 returns-16 c = rw c.before.answer6.given.1
 
 pub result-of-spec : {M : Type 1} → statement M
