@@ -1,9 +1,6 @@
-pub mod Calling
 pub mod Finds
 pub mod Folds
 pub mod Gathers
 pub mod Given
-pub mod Seeking
-pub mod Settled
 pub mod Turns
-pub mod Walks
+pub mod Settled

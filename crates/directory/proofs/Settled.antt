@@ -1,8 +1,6 @@
 -- Of each public function: no second answer satisfies its contract.
 -- Assumes nothing.
-use Rattle.directory.specs.declared.Gathered.{Gathered}
-use Rattle.directory.specs.declared.Found.{Found}
-use Rattle.shape.proofs.Single.{Settled, SettledWalked, one-clause, by-equation}
+use Rattle.shape.proofs.Single.{Settled, by-equation}
 use Rattle.directory.proofs.fits.Kinds as fits-kinds
 use Rattle.directory.proofs.fits.Reads as fits-reads
 use Rattle.directory.proofs.is_owner.Kinds as is-owner-kinds
@@ -35,9 +33,12 @@ use Rattle.directory.proofs.bank_in.Kinds as bank-in-kinds
 use Rattle.directory.proofs.bank_in.Reads as bank-in-reads
 use Rattle.directory.proofs.is_bank_found.Kinds as is-bank-found-kinds
 use Rattle.directory.proofs.is_bank_found.Reads as is-bank-found-reads
-use Rattle.directory.specs.contracts.gather as gather-contract
-use Rattle.directory.specs.contracts.find as find-contract
-use Rattle.directory.specs.contracts.find_given as find-given-contract
+use Rattle.directory.proofs.gather.Kinds as gather-kinds
+use Rattle.directory.proofs.gather.Reads as gather-reads
+use Rattle.directory.proofs.find.Kinds as find-kinds
+use Rattle.directory.proofs.find.Reads as find-reads
+use Rattle.directory.proofs.find_given.Kinds as find-given-kinds
+use Rattle.directory.proofs.find_given.Reads as find-given-reads
 
 pub under-sep : Settled _ under-sep-kinds.ps under-sep-kinds.r under-sep-reads.Post
 under-sep κs a x y e f = by-equation
@@ -87,12 +88,11 @@ bank-in κs a x y e f = by-equation
 pub is-bank-found : Settled _ is-bank-found-kinds.ps is-bank-found-kinds.r is-bank-found-reads.Post
 is-bank-found κs a x y e f = by-equation
 
--- of the three that take the lent list, whose proofs are walks: by their own clauses
-pub gather : SettledWalked gather-contract.ended (λ M. gather-contract.clauses) Gathered (λ κs x e. x)
-gather M 𝓤 𝓛 mem run κs a g x y e f = one-clause 𝓤 by-equation
+pub gather : Settled _ gather-kinds.ps gather-kinds.r gather-reads.Post
+gather κs a x y e f = by-equation
 
-pub find : SettledWalked find-contract.ended (λ M. find-contract.clauses) Found (λ κs x e. x)
-find M 𝓤 𝓛 mem run κs a g x y e f = one-clause 𝓤 by-equation
+pub find : Settled _ find-kinds.ps find-kinds.r find-reads.Post
+find κs a x y e f = by-equation
 
-pub find-given : SettledWalked find-given-contract.ended (λ M. find-given-contract.clauses) Found (λ κs x e. x)
-find-given M 𝓤 𝓛 mem run κs a g x y e f = one-clause 𝓤 by-equation
+pub find-given : Settled _ find-given-kinds.ps find-given-kinds.r find-given-reads.Post
+find-given κs a x y e f = by-equation

@@ -68,6 +68,7 @@ fn none_gathered() -> Gathered
 }
 
 // One record more: in the next place while there is one, and counted in any case.
+#[tactic(auto, unfolding(crate::specs::Gathering::added))]
 fn add(g: Gathered, p: Participant) -> Gathered
     requires { g.count < 2 ^ 63 }
     ensures { result ≡ added g p }
@@ -95,6 +96,7 @@ pub fn gather(dir: &[Participant]) -> Gathered
 }
 
 // What is found of a code with one record more: what was found before, else this record if it is the code's.
+#[tactic(auto, unfolding(crate::specs::Gathering::looked))]
 fn look(before: Found, place: usize, p: Participant, code: u64) -> Found
     ensures { result ≡ looked before place p code }
 {
@@ -124,6 +126,7 @@ pub fn find(dir: &[Participant], code: u64) -> Found
 }
 
 // The code to look for, 0 where none is given.
+#[tactic(auto, unfolding(crate::specs::Gathering::code_in))]
 fn code_in(code: Value) -> u64
     ensures { result ≡ code_in code }
 {
@@ -134,6 +137,7 @@ fn code_in(code: Value) -> u64
 }
 
 // What was found, where a code was given to look for.
+#[tactic(auto, unfolding(crate::specs::Gathering::if_given))]
 fn if_given(code: Value, found: Found) -> Found
     ensures { result ≡ if_given code found }
 {
@@ -272,6 +276,7 @@ fn ascends(g: Gathered) -> bool
 }
 
 // Whether the directory that was gathered is fit.
+#[tactic(auto, unfolding(crate::specs::Gathering::fit_gathered))]
 pub fn fits(g: Gathered) -> bool
     ensures { result ≡ fit_gathered g }
 {
