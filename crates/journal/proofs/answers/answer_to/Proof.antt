@@ -9,58 +9,58 @@ use Rattle.journal.proofs.AnswerLaws.{answer-begin, answer-hit, answer-miss, ans
 use Rattle.journal.proofs.answers.answer_to.Statement.{statement}
 use Rattle.journal.proofs.answers.answer_to.Tie as tie
 
-abbrev invariant-loop : tie.invariant-loop
-invariant-loop s k count number j₀ j = (count ≤ steps) × (answer_to s k ≡ answer_from s number j (count - j))
+abbrev invariant-loop-j : tie.invariant-loop-j
+invariant-loop-j s k count number j₀ j = (count ≤ steps) × (answer_to s k ≡ answer_from s number j (count - j))
 
-abbrev decreases-loop : tie.decreases-loop
-decreases-loop s k count number j₀ j = count - j
+abbrev decreases-loop-j : tie.decreases-loop-j
+decreases-loop-j s k count number j₀ j = count - j
 
-head-requires : tie.Need-head-requires invariant-loop decreases-loop
-head-requires c κs = c.before.requires.0
+head-requires : tie.Need-head-h-requires invariant-loop-j decreases-loop-j
+head-requires c κs = c.requires.0
 
-add-number : tie.Need-overflow-add-number invariant-loop decreases-loop
-add-number c = omega (arith, c.before.before.requires.2)
+add-number : tie.Need-overflow_add-number invariant-loop-j decreases-loop-j
+add-number c = omega (arith, c.requires.2)
 
-loop-holds : tie.Need-loop-init invariant-loop decreases-loop
+loop-holds : tie.Need-loop-j-init invariant-loop-j decreases-loop-j
 loop-holds c = (
-  subst (λ (h : Head). h.steps ≤ steps) (sym c.head.ensures) c.before.before.requires.1,
-  answer-begin c.before.before.args.s.now c.before.before.args.k c.head.result c.head.ensures,
+  subst (λ (h : Head). h.steps ≤ steps) (sym c.head-h.ensures) c.requires.1,
+  answer-begin c.args.s.now c.args.k c.head-h.result c.head-h.ensures,
 )
 
-step-answered-requires : tie.Need-step-answered-requires invariant-loop decreases-loop
-step-answered-requires c κs = (c.before.before.before.before.requires.0, omega (arith, c.before.loop.invariant.0, c.loop-test.true))
+step-answered-requires : tie.Need-step_answered-requires invariant-loop-j decreases-loop-j
+step-answered-requires c κs = (c.requires.0, omega (arith, c.loop-j.invariant.0, c.loop-j-test.true))
 
-returns : tie.Need-returns invariant-loop decreases-loop
+returns : tie.Need-returns-then-step_answered-number invariant-loop-j decreases-loop-j
 returns c =
-    let turn = c.before.before.before in
-    sym (turn.loop.invariant.1
-    ∙ answer-hit turn.before.before.before.args.s.now _ turn.loop.j _ c.before.before.loop-test.true
-    (sym c.before.step-answered.ensures ∙ c.if1.true))
+    let turn = c in
+    sym (turn.loop-j.invariant.1
+    ∙ answer-hit turn.args.s.now _ turn.loop-j.j _ c.loop-j-test.true
+    (sym c.step_answered.ensures ∙ c.if-step_answered-number.true))
 
-add-j : tie.Need-overflow-add-j invariant-loop decreases-loop
-add-j c = omega (arith, c.before.before.before.loop.invariant.0, c.before.before.loop-test.true)
+add-j : tie.Need-overflow_add-j invariant-loop-j decreases-loop-j
+add-j c = omega (arith, c.loop-j.invariant.0, c.loop-j-test.true)
 
-loop-less : tie.Need-loop-smaller invariant-loop decreases-loop
-loop-less c = omega (arith, c.before.before.loop-test.true)
+loop-less : tie.Need-loop-j-smaller invariant-loop-j decreases-loop-j
+loop-less c = omega (arith, c.loop-j-test.true)
 
-loop-again : tie.Need-loop-preserved invariant-loop decreases-loop
+loop-again : tie.Need-loop-j-preserved invariant-loop-j decreases-loop-j
 loop-again c =
-    let turn = c.before.before.before in (
-      turn.loop.invariant.0,
-      turn.loop.invariant.1
-          ∙ answer-miss turn.before.before.before.args.s.now _ turn.loop.j _ c.before.before.loop-test.true
-          (λ (e : _). c.if1.false (c.before.step-answered.ensures ∙ e)),
+    let turn = c in (
+      turn.loop-j.invariant.0,
+      turn.loop-j.invariant.1
+          ∙ answer-miss turn.args.s.now _ turn.loop-j.j _ c.loop-j-test.true
+          (λ (e : _). c.if-step_answered-number.false (c.step_answered.ensures ∙ e)),
     )
 
-returns-2 : tie.Need-returns-2 invariant-loop decreases-loop
-returns-2 c = sym (c.before.loop.invariant.1 ∙ answer-end c.before.before.before.before.args.s.now _ c.before.loop.j _ c.loop-test.false)
+returns-2 : tie.Need-returns invariant-loop-j decreases-loop-j
+returns-2 c = sym (c.loop-j.invariant.1 ∙ answer-end c.args.s.now _ c.loop-j.j _ c.loop-j-test.false)
 
-pub answer-to-spec : {M : Type 1} → statement M
-answer-to-spec =
+pub answer_to_spec : {M : Type 1} → statement M
+answer_to_spec =
     tie.close
     (tie.spec
-    invariant-loop
-    decreases-loop
+    invariant-loop-j
+    decreases-loop-j
     head-requires
     add-number
     loop-holds

@@ -6,78 +6,78 @@ use borrow.Author.Rules.{rules}
 use Rattle.journal.proofs.answers.is_answerable.Statement.{statement}
 use Rattle.journal.proofs.answers.is_answerable.Tie as tie
 
-returns : tie.Need-returns
-returns c = next-answers-none c.before.before.before.args.x c.before.before.before.args.s.now c.if1.true
+returns : tie.Need-returns-then-x-eq0
+returns c = next-answers-none c.args.x c.args.s.now c.if-x-eq0.true
 
-head-requires : tie.Need-head-requires
+head-requires : tie.Need-head-h-requires
 head-requires c κs = search rules
 
-returns-2 : tie.Need-returns-2
+returns-2 : tie.Need-returns-then-h-x
 returns-2 c =
-    let counted = c.before.before.before in
-    let start = counted.before.before.before.before in
-    next-too-late start.args.x start.args.s.now counted.head.result counted.head.ensures counted.before.if1.false c.if2.true
+    let counted = c in
+    let start = counted in
+    next-too-late start.args.x start.args.s.now counted.head-h.result counted.head-h.ensures counted.if-x-eq0.false c.if-h-x.true
 
-sub-k : tie.Need-overflow-sub-k
+sub-k : tie.Need-overflow_sub-k
 sub-k c = search rules
 
-step-requires : tie.Need-step-requires
+step-requires : tie.Need-step-transfer-requires
 step-requires c κs =
-    let counted = c.before.before.before.before in
-    let start = counted.before.before.before.before in (
+    let counted = c in
+    let start = counted in (
       start.requires.0,
-      answered-below start.args.x start.args.s.now counted.head.result counted.head.ensures start.requires.1
-          c.before.if2.false,
+      answered-below start.args.x start.args.s.now counted.head-h.result counted.head-h.ensures start.requires.1
+          c.if-h-x.false,
     )
 
 waits-requires : tie.Need-waits-requires
 waits-requires c κs =
-    let counted = c.before.before.before.before.before in
-    let start = counted.before.before.before.before in (
+    let counted = c in
+    let start = counted in (
       start.requires.0,
       start.requires.1,
-      answered-below start.args.x start.args.s.now counted.head.result counted.head.ensures
-          start.requires.1 c.before.before.if2.false,
+      answered-below start.args.x start.args.s.now counted.head-h.result counted.head-h.ensures
+          start.requires.1 c.if-h-x.false,
     )
 
-returns-3 : tie.Need-returns-3
+returns-3 : tie.Need-returns-then-not-waits
 returns-3 c =
-    let read = c.before.before in
-    let counted = read.before.before.before.before.before in
-    let at = counted.before.before.before.before.args in
-    next-unwaited at.x at.s.now counted.head.result counted.head.ensures counted.before.if1.false
-    read.before.before.if2.false read.step.result read.step.ensures
-    (sym c.before.waits.ensures ∙ not-true _ c.if3.true)
+    let read = c in
+    let counted = read in
+    let at = counted.args in
+    next-unwaited at.x at.s.now counted.head-h.result counted.head-h.ensures counted.if-x-eq0.false
+    read.if-h-x.false read.step-transfer.result read.step-transfer.ensures
+    (sym c.waits.ensures ∙ not-true _ c.if-not-waits.true-raw)
 
 moves-requires : tie.Need-moves-requires
 moves-requires c κs = tt
 
-returns-4 : tie.Need-returns-4
+returns-4 : tie.Need-returns-then-not-moves
 returns-4 c =
-    let read = c.before.before.before.before in
-    let counted = read.before.before.before.before.before in
-    let at = counted.before.before.before.before.args in
-    next-rests at.x at.s.now counted.head.result counted.head.ensures counted.before.if1.false read.before.before.if2.false
-    read.step.result read.step.ensures
-    (sym c.before.before.before.waits.ensures ∙ not-false _ c.before.before.if3.false) (sym c.before.moves.ensures ∙ not-true _
-    c.if4.true)
+    let read = c in
+    let counted = read in
+    let at = counted.args in
+    next-rests at.x at.s.now counted.head-h.result counted.head-h.ensures counted.if-x-eq0.false read.if-h-x.false
+    read.step-transfer.result read.step-transfer.ensures
+    (sym c.waits.ensures ∙ not-false _ c.if-not-waits.false-raw) (sym c.moves.ensures ∙ not-true _
+    c.if-not-moves.true-raw)
 
-same-movement-requires : tie.Need-same-movement-requires
+same-movement-requires : tie.Need-same_movement-requires
 same-movement-requires c κs = tt
 
-returns-5 : tie.Need-returns-5
+returns-5 : tie.Need-returns
 returns-5 c =
-    let read = c.before.before.before.before.before in
-    let counted = read.before.before.before.before.before in
-    let at = counted.before.before.before.before.args in
-    c.same-movement.ensures
-    ∙ next-moves at.x at.s.now counted.head.result counted.head.ensures counted.before.if1.false
-    read.before.before.if2.false read.step.result read.step.ensures
-    (sym c.before.before.before.before.waits.ensures ∙ not-false _ c.before.before.before.if3.false) (sym
-    c.before.before.moves.ensures ∙ not-false _ c.before.if4.false)
+    let read = c in
+    let counted = read in
+    let at = counted.args in
+    c.same_movement.ensures
+    ∙ next-moves at.x at.s.now counted.head-h.result counted.head-h.ensures counted.if-x-eq0.false
+    read.if-h-x.false read.step-transfer.result read.step-transfer.ensures
+    (sym c.waits.ensures ∙ not-false _ c.if-not-waits.false-raw) (sym
+    c.moves.ensures ∙ not-false _ c.if-not-moves.false-raw)
 
-pub is-answerable-spec : {M : Type 1} → statement M
-is-answerable-spec =
+pub is_answerable_spec : {M : Type 1} → statement M
+is_answerable_spec =
     tie.close
     (tie.spec
     returns

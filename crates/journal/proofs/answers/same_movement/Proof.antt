@@ -8,5 +8,5 @@ returns : tie.Need-returns
 unfolding same_movement
 returns c = refl
 
-pub same-movement-spec : {M : Type 1} → statement M
-same-movement-spec = tie.close (tie.spec returns)
+pub same_movement_spec : {M : Type 1} → statement M
+same_movement_spec = tie.close (tie.spec returns)

@@ -6,36 +6,36 @@ use borrow.Author.Rules.{rules}
 use Rattle.journal.proofs.answers.waits.Statement.{statement}
 use Rattle.journal.proofs.answers.waits.Tie as tie
 
-is-waiting-requires : tie.Need-is-waiting-requires
+is-waiting-requires : tie.Need-is_waiting-requires
 is-waiting-requires c κs = search rules
 
-returns : tie.Need-returns
+returns : tie.Need-returns-then-not-is_waiting
 returns c =
-    let at = c.before.before.before.args in
-    waits-not at.s.now at.k at.x (sym c.before.is-waiting.ensures ∙ not-true _ c.if1.true)
+    let at = c.args in
+    waits-not at.s.now at.k at.x (sym c.is_waiting.ensures ∙ not-true _ c.if-not-is_waiting.true-raw)
 
-answer-to-requires : tie.Need-answer-to-requires
+answer-to-requires : tie.Need-answer_to-answer-requires
 answer-to-requires c κs = search rules
 
-enum-known-answer : tie.Need-enum-known-answer
+enum-known-answer : tie.Need-enum_known-answer
 enum-known-answer c = search rules
 
-enum_told : tie.Need-enum-told
+enum_told : tie.Need-enum_told-1
 enum_told c = search rules
 
-returns-2 : tie.Need-returns-2
+returns-2 : tie.Need-returns-in-Of
 returns-2 c =
-    let at = c.before.before.before.before.before.before.before.args in
-    waits-answered at.s.now at.k at.x _ (sym c.before.before.before.answer-to.ensures ∙ c.before.answer.given.1)
+    let at = c.args in
+    waits-answered at.s.now at.k at.x _ (sym c.answer_to-answer.ensures ∙ c.in-Of.is)
 
-returns-3 : tie.Need-returns-3
+returns-3 : tie.Need-returns-in-None
 returns-3 c =
-    let at = c.before.before.before.before.before.before.args in
-    waits-still at.s.now at.k at.x (sym c.before.before.before.before.is-waiting.ensures ∙ not-false _ c.before.before.before.if1.false)
-    (sym c.before.before.answer-to.ensures ∙ c.enum_told.given.1)
+    let at = c.args in
+    waits-still at.s.now at.k at.x (sym c.is_waiting.ensures ∙ not-false _ c.if-not-is_waiting.false-raw)
+    (sym c.answer_to-answer.ensures ∙ c.in-None.is)
 
-pub waits-spec : {M : Type 1} → statement M
-waits-spec =
+pub waits_spec : {M : Type 1} → statement M
+waits_spec =
     tie.close
     (tie.spec
     is-waiting-requires

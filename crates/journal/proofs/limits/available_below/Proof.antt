@@ -4,13 +4,13 @@ use Rattle.journal.proofs.Above.{below-limit, above-limit}
 use Rattle.journal.proofs.limits.available_below.Statement.{statement}
 use Rattle.journal.proofs.limits.available_below.Tie as tie
 
-returns : tie.Need-returns
+returns : tie.Need-returns-then-a-ltk
 unfolding available_below
-returns c = below-limit c.before.before.args.a.balance c.before.before.args.a.settings.ltk c.before.before.args.amount c.if1.true
+returns c = below-limit c.args.a.balance c.args.a.settings.ltk c.args.amount c.if-a-ltk.true
 
-returns-2 : tie.Need-returns-2
+returns-2 : tie.Need-returns
 unfolding available_below
-returns-2 c = above-limit c.before.before.before.args.a.balance c.before.before.before.args.a.settings.ltk c.before.before.before.args.amount c.before.if1.false
+returns-2 c = above-limit c.args.a.balance c.args.a.settings.ltk c.args.amount c.if-a-ltk.false
 
-pub available-below-spec : {M : Type 1} → statement M
-available-below-spec = tie.close (tie.spec returns returns-2)
+pub available_below_spec : {M : Type 1} → statement M
+available_below_spec = tie.close (tie.spec returns returns-2)

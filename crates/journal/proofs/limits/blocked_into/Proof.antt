@@ -8,5 +8,5 @@ returns : tie.Need-returns
 unfolding blocked_into
 returns c = refl
 
-pub blocked-into-spec : {M : Type 1} → statement M
-blocked-into-spec = tie.close (tie.spec returns)
+pub blocked_into_spec : {M : Type 1} → statement M
+blocked_into_spec = tie.close (tie.spec returns)

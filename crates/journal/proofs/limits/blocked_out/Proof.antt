@@ -8,5 +8,5 @@ returns : tie.Need-returns
 unfolding blocked_out
 returns c = refl
 
-pub blocked-out-spec : {M : Type 1} → statement M
-blocked-out-spec = tie.close (tie.spec returns)
+pub blocked_out_spec : {M : Type 1} → statement M
+blocked_out_spec = tie.close (tie.spec returns)

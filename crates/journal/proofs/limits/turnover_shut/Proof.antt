@@ -8,5 +8,5 @@ returns : tie.Need-returns
 unfolding turnover_shut
 returns c = refl
 
-pub turnover-shut-spec : {M : Type 1} → statement M
-turnover-shut-spec = tie.close (tie.spec returns)
+pub turnover_shut_spec : {M : Type 1} → statement M
+turnover_shut_spec = tie.close (tie.spec returns)

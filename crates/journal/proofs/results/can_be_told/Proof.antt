@@ -8,29 +8,29 @@ use borrow.Author.Rules.{rules}
 use Rattle.journal.proofs.results.can_be_told.Statement.{statement}
 use Rattle.journal.proofs.results.can_be_told.Tie as tie
 
-returns : tie.Need-returns
-returns c = sym (told-settled _ _ c.if1.true)
+returns : tie.Need-returns-then-status-eq-ACCC
+returns c = sym (told-settled _ _ c.if-status-eq-ACCC.true)
 
-returns-2 : tie.Need-returns-2
+returns-2 : tie.Need-returns-then-status-ne-RJCT
 unfolding told_as status_number
-returns-2 c = rw (ne_eqb _ _ c.before.if1.false, ne_eqb _ _ c.if2.true)
+returns-2 c = rw (ne_eqb _ _ c.if-status-eq-ACCC.false, ne_eqb _ _ c.if-status-ne-RJCT.true)
 
-can-fail-requires : tie.Need-can-fail-requires
+can-fail-requires : tie.Need-can_fail-requires
 can-fail-requires c κs = search rules
 
-is-rejecting-requires : tie.Need-is-rejecting-requires
+is-rejecting-requires : tie.Need-is_rejecting-requires
 is-rejecting-requires c κs = search rules
 
-returns-3 : tie.Need-returns-3
+returns-3 : tie.Need-returns
 unfolding told_as status_number
 returns-3 c =
     rw (
-      ne_eqb _ _ c.before.before.before.if1.false,
-      eq-eqb _ _ c.before.before.if2.false,
-      c.before.can-fail.ensures,
-      c.is-rejecting.ensures,
+      ne_eqb _ _ c.if-status-eq-ACCC.false,
+      eq-eqb _ _ c.if-status-ne-RJCT.false,
+      c.can_fail.ensures,
+      c.is_rejecting.ensures,
     )
 
-pub can-be-told-spec : {M : Type 1} → statement M
-can-be-told-spec =
+pub can_be_told_spec : {M : Type 1} → statement M
+can_be_told_spec =
     tie.close (tie.spec returns returns-2 can-fail-requires is-rejecting-requires returns-3)

@@ -8,19 +8,19 @@ use Rattle.journal.proofs.ResultLaws.{ends-carried-out}
 use Rattle.journal.proofs.results.can_end.Statement.{statement}
 use Rattle.journal.proofs.results.can_end.Tie as tie
 
-returns : tie.Need-returns
-returns c = sym (ends-carried-out _ _ _ c.if1.true)
+returns : tie.Need-returns-then-status-eq-ACCC
+returns c = sym (ends-carried-out _ _ _ c.if-status-eq-ACCC.true)
 
-returns-2 : tie.Need-returns-2
+returns-2 : tie.Need-returns-then-status-ne-RJCT
 unfolding ends_as status_number
-returns-2 c = rw (ne_eqb _ _ c.before.if1.false, ne_eqb _ _ c.if2.true)
+returns-2 c = rw (ne_eqb _ _ c.if-status-eq-ACCC.false, ne_eqb _ _ c.if-status-ne-RJCT.true)
 
-can-fail-requires : tie.Need-can-fail-requires
+can-fail-requires : tie.Need-can_fail-requires
 can-fail-requires c κs = search rules
 
-returns-3 : tie.Need-returns-3
+returns-3 : tie.Need-returns
 unfolding ends_as status_number
-returns-3 c = rw (ne_eqb _ _ c.before.before.if1.false, eq-eqb _ _ c.before.if2.false, c.can-fail.ensures)
+returns-3 c = rw (ne_eqb _ _ c.if-status-eq-ACCC.false, eq-eqb _ _ c.if-status-ne-RJCT.false, c.can_fail.ensures)
 
-pub can-end-spec : {M : Type 1} → statement M
-can-end-spec = tie.close (tie.spec returns returns-2 can-fail-requires returns-3)
+pub can_end_spec : {M : Type 1} → statement M
+can_end_spec = tie.close (tie.spec returns returns-2 can-fail-requires returns-3)

@@ -8,48 +8,48 @@ use borrow.Author.Rules.{rules}
 use Rattle.journal.proofs.results.result_fits.Statement.{statement}
 use Rattle.journal.proofs.results.result_fits.Tie as tie
 
-can-be-sent-requires : tie.Need-can-be-sent-requires
+can-be-sent-requires : tie.Need-can_be_sent-requires
 can-be-sent-requires c κs = search rules
 
-returns : tie.Need-returns
-returns c = c.can-be-sent.ensures ∙ sym (sent-fits _ _ _ c.before.if1.true)
+returns : tie.Need-returns-then-kind-eq-PACS_008
+returns c = c.can_be_sent.ensures ∙ sym (sent-fits _ _ _ c.if-kind-eq-PACS_008.true)
 
-can-end-requires : tie.Need-can-end-requires
+can-end-requires : tie.Need-can_end-requires
 can-end-requires c κs = search rules
 
-returns-2 : tie.Need-returns-2
-returns-2 c = c.can-end.ensures ∙ sym (moved-fits _ _ _ c.before.if2.true)
+returns-2 : tie.Need-returns-then-kind-eq-CAMT_050
+returns-2 c = c.can_end.ensures ∙ sym (moved-fits _ _ _ c.if-kind-eq-CAMT_050.true)
 
-can-end-requires-2 : tie.Need-can-end-requires-2
+can-end-requires-2 : tie.Need-can_end-requires-then-kind-eq-PACS_002
 can-end-requires-2 c κs = search rules
 
-returns-3 : tie.Need-returns-3
-returns-3 c = c.can-end2.ensures ∙ sym (answer-fits _ _ _ c.before.if3.true)
+returns-3 : tie.Need-returns-then-kind-eq-PACS_002
+returns-3 c = c.can_end-then-kind-eq-PACS_002.ensures ∙ sym (answer-fits _ _ _ c.if-kind-eq-PACS_002.true)
 
-returns-4 : tie.Need-returns-4
+returns-4 : tie.Need-returns-then-kind-ne-PACS_028
 unfolding result_fits kind_number
 returns-4 c =
     rw (
-      ne_eqb _ _ c.before.before.before.if1.false,
-      ne_eqb _ _ c.before.before.if2.false,
-      ne_eqb _ _ c.before.if3.false,
-      ne_eqb _ _ c.if4.true,
+      ne_eqb _ _ c.if-kind-eq-PACS_008.false,
+      ne_eqb _ _ c.if-kind-eq-CAMT_050.false,
+      ne_eqb _ _ c.if-kind-eq-PACS_002.false,
+      ne_eqb _ _ c.if-kind-ne-PACS_028.true,
     )
 
-can-fail-requires : tie.Need-can-fail-requires
+can-fail-requires : tie.Need-can_fail-requires
 can-fail-requires c κs = search rules
 
-returns-5 : tie.Need-returns-5
-returns-5 c = c.can-fail.ensures ∙ sym (pending-fits _ _ _ c.before.before.if4.false c.before.if5.true)
+returns-5 : tie.Need-returns-then-status-eq-PDNG
+returns-5 c = c.can_fail.ensures ∙ sym (pending-fits _ _ _ c.if-kind-ne-PACS_028.false c.if-status-eq-PDNG.true)
 
-can-be-told-requires : tie.Need-can-be-told-requires
+can-be-told-requires : tie.Need-can_be_told-requires
 can-be-told-requires c κs = search rules
 
-returns-6 : tie.Need-returns-6
-returns-6 c = c.can-be-told.ensures ∙ sym (told-fits _ _ _ c.before.before.if4.false c.before.if5.false)
+returns-6 : tie.Need-returns
+returns-6 c = c.can_be_told.ensures ∙ sym (told-fits _ _ _ c.if-kind-ne-PACS_028.false c.if-status-eq-PDNG.false)
 
-pub result-fits-spec : {M : Type 1} → statement M
-result-fits-spec =
+pub result_fits_spec : {M : Type 1} → statement M
+result_fits_spec =
     tie.close
     (tie.spec
     can-be-sent-requires

@@ -7,13 +7,13 @@ use Rattle.journal.proofs.steps.answers_fits.Tie as tie
 closes-requires : tie.Need-closes-requires
 closes-requires c κs = tt
 
-returns : tie.Need-returns
+returns : tie.Need-returns-then-closes
 unfolding answers_fits
-returns c = rw (sym c.before.before.before.closes.ensures ∙ c.before.before.if1.true)
+returns c = rw (sym c.closes.ensures ∙ c.if-closes.true)
 
-returns-2 : tie.Need-returns-2
+returns-2 : tie.Need-returns
 unfolding answers_fits
-returns-2 c = rw (sym c.before.before.closes.ensures ∙ c.before.if1.false)
+returns-2 c = rw (sym c.closes.ensures ∙ c.if-closes.false)
 
-pub answers-fits-spec : {M : Type 1} → statement M
-answers-fits-spec = tie.close (tie.spec closes-requires returns returns-2)
+pub answers_fits_spec : {M : Type 1} → statement M
+answers_fits_spec = tie.close (tie.spec closes-requires returns returns-2)

@@ -5,13 +5,13 @@ use Rattle.journal.specs.Steps.{between}
 use Rattle.journal.proofs.steps.is_between.Statement.{statement}
 use Rattle.journal.proofs.steps.is_between.Tie as tie
 
-returns : tie.Need-returns
+returns : tie.Need-returns-then-x-eq-CAMT_050
 unfolding between kind_number
-returns c = rw (eq-eqb c.before.before.before.before.before.args.x.kind 2 c.before.before.before.if1.true)
+returns c = rw (eq-eqb c.args.x.kind 2 c.if-x-eq-CAMT_050.true)
 
-returns-2 : tie.Need-returns-2
+returns-2 : tie.Need-returns
 unfolding between kind_number
-returns-2 c = rw (ne_eqb c.before.before.before.before.args.x.kind 2 c.before.before.if1.false)
+returns-2 c = rw (ne_eqb c.args.x.kind 2 c.if-x-eq-CAMT_050.false)
 
-pub is-between-spec : {M : Type 1} → statement M
-is-between-spec = tie.close (tie.spec returns returns-2)
+pub is_between_spec : {M : Type 1} → statement M
+is_between_spec = tie.close (tie.spec returns returns-2)

@@ -14,70 +14,70 @@ use Rattle.journal.proofs.StoredLaws.{is_zero, stored-kept, not-stored, stored-e
 use Rattle.journal.proofs.steps.is_stored.Statement.{statement}
 use Rattle.journal.proofs.steps.is_stored.Tie as tie
 
-text-of-requires : tie.Need-text-of-requires
+text-of-requires : tie.Need-text_of-text-requires
 text-of-requires c κs = tt
 
-returns : tie.Need-returns
-returns c = absurd (omega (arith, text-most c.before.before.text_of.result c.before.before.before.args.x c.before.before.text_of.ensures))
+returns : tie.Need-returns-then-length-gt-IDENTIFIER_MOST
+returns c = absurd (omega (arith, text-most c.text_of-text.result c.args.x c.text_of-text.ensures))
 
-array-share-prefix-bytes : tie.Need-array-share-prefix-bytes
-array-share-prefix-bytes c = text-fits c.before.before.text_of.result c.before.before.before.args.x c.before.before.text_of.ensures
+array-share-prefix-bytes : tie.Need-slice_bounds-bytes-end
+array-share-prefix-bytes c = text-fits c.text_of-text.result c.args.x c.text_of-text.ensures
 
-slice-aggregate-is-identifier : tie.Need-slice-aggregate-is-identifier
-slice-aggregate-is-identifier c = text-long c.before.before.before.text_of.result c.before.before.before.before.args.x c.before.before.before.text_of.ensures
+slice-aggregate-is-identifier : tie.Need-slice_bounds-is_identifier-end
+slice-aggregate-is-identifier c = text-long c.text_of-text.result c.args.x c.text_of-text.ensures
 
-is-identifier-requires : tie.Need-is-identifier-requires
+is-identifier-requires : tie.Need-is_identifier-requires
 is-identifier-requires c κs = tt
 
-returns-2 : tie.Need-returns-2
+returns-2 : tie.Need-returns-then-not-is_identifier
 returns-2 c =
     sym
-    (not-stored c.before.before.before.before.before.before.args.x
-    (ap is_identifier (sym (text-part c.before.before.before.before.before.text_of.result c.before.before.before.before.before.before.args.x c.before.before.before.before.before.text_of.ensures)) ∙ sym c.before.is-identifier.ensures ∙ not-true c.before.is-identifier.result c.if2.true))
+    (not-stored c.args.x
+    (ap is_identifier (sym (text-part c.text_of-text.result c.args.x c.text_of-text.ensures)) ∙ sym c.is_identifier.ensures ∙ not-true c.is_identifier.result c.if-not-is_identifier.true-raw))
 
-is-low-requires : tie.Need-is-low-requires
+is-low-requires : tie.Need-is_low-requires
 is-low-requires c κs = tt
 
-part-all-zeros-start : tie.Need-slice-bounds-all-zeros-start
+part-all-zeros-start : tie.Need-slice_bounds-all_zeros-start
 part-all-zeros-start c = search rules
 
-part-all-zeros-end : tie.Need-slice-bounds-all-zeros-end
-part-all-zeros-end c = omega (arith, text-whole c.before.before.before.before.before.before.before.text_of.result c.before.before.before.before.before.before.before.before.args.x c.before.before.before.before.before.before.before.text_of.ensures)
+part-all-zeros-end : tie.Need-slice_bounds-all_zeros-end
+part-all-zeros-end c = omega (arith, text-whole c.text_of-text.result c.args.x c.text_of-text.ensures)
 
-all-zeros-requires : tie.Need-all-zeros-requires
+all-zeros-requires : tie.Need-all_zeros-requires
 all-zeros-requires c κs = tt
 
-returns-3 : tie.Need-returns-3
+returns-3 : tie.Need-returns-then-is_low-all_zeros
 returns-3 c =
     sym
-    (stored-kept c.before.before.before.before.before.before.before.before.before.before.before.args.x
-    (ap is_identifier (sym (text-part c.before.before.before.before.before.before.before.before.before.before.text_of.result c.before.before.before.before.before.before.before.before.before.before.before.args.x c.before.before.before.before.before.before.before.before.before.before.text_of.ensures)) ∙ sym c.before.before.before.before.before.before.is-identifier.ensures ∙ not-false c.before.before.before.before.before.before.is-identifier.result c.before.before.before.before.before.if2.false)
-    (sym c.before.before.before.before.is-low.ensures ∙ and_left c.before.before.before.before.is-low.result c.before.all-zeros.result c.if3.true)
-    (text-behind c.before.before.before.before.before.before.before.before.before.before.text_of.result c.before.before.before.before.before.before.before.before.before.before.before.args.x c.before.before.before.before.before.before.before.before.before.before.text_of.ensures (35 - c.before.before.before.before.before.before.before.before.before.before.text_of.result.length) (omega (arith, text-most c.before.before.before.before.before.before.before.before.before.before.text_of.result c.before.before.before.before.before.before.before.before.before.before.before.args.x c.before.before.before.before.before.before.before.before.before.before.text_of.ensures)) is_zero
-    (sym c.before.all-zeros.ensures ∙ and_right c.before.before.before.before.is-low.result c.before.all-zeros.result c.if3.true)))
+    (stored-kept c.args.x
+    (ap is_identifier (sym (text-part c.text_of-text.result c.args.x c.text_of-text.ensures)) ∙ sym c.is_identifier.ensures ∙ not-false c.is_identifier.result c.if-not-is_identifier.false-raw)
+    (sym c.is_low.ensures ∙ and_left c.is_low.result c.all_zeros.result c.if-is_low-all_zeros.true)
+    (text-behind c.text_of-text.result c.args.x c.text_of-text.ensures (35 - c.text_of-text.result.length) (omega (arith, text-most c.text_of-text.result c.args.x c.text_of-text.ensures)) is_zero
+    (sym c.all_zeros.ensures ∙ and_right c.is_low.result c.all_zeros.result c.if-is_low-all_zeros.true)))
 
-array-share-prefix-bytes-2 : tie.Need-array-share-prefix-bytes-2
-array-share-prefix-bytes-2 c = text-fits c.before.before.before.before.before.before.before.before.before.before.text_of.result c.before.before.before.before.before.before.before.before.before.before.before.args.x c.before.before.before.before.before.before.before.before.before.before.text_of.ensures
+array-share-prefix-bytes-2 : tie.Need-slice_bounds-bytes-end-2
+array-share-prefix-bytes-2 c = text-fits c.text_of-text.result c.args.x c.text_of-text.ensures
 
-slice-aggregate-identifier-of : tie.Need-slice-aggregate-identifier-of
-slice-aggregate-identifier-of c = text-long c.before.before.before.before.before.before.before.before.before.before.before.text_of.result c.before.before.before.before.before.before.before.before.before.before.before.before.args.x c.before.before.before.before.before.before.before.before.before.before.before.text_of.ensures
+slice-aggregate-identifier-of : tie.Need-slice_bounds-identifier_of-end
+slice-aggregate-identifier-of c = text-long c.text_of-text.result c.args.x c.text_of-text.ensures
 
-identifier-of-requires : tie.Need-identifier-of-requires
+identifier-of-requires : tie.Need-identifier_of-requires
 identifier-of-requires c κs = tt
 
-same-identifier-requires : tie.Need-same-identifier-requires
+same-identifier-requires : tie.Need-same_identifier-requires
 same-identifier-requires c κs = tt
 
-returns-4 : tie.Need-returns-4
+returns-4 : tie.Need-returns
 returns-4 c =
-    c.same-identifier.ensures
-    ∙ ap (λ (y : Identifier). same_identifier y c.before.before.before.before.before.before.before.before.before.before.before.before.before.before.args.x) (c.before.identifier-of.ensures ∙ ap identifier_of (text-part c.before.before.before.before.before.before.before.before.before.before.before.before.before.text_of.result c.before.before.before.before.before.before.before.before.before.before.before.before.before.before.args.x c.before.before.before.before.before.before.before.before.before.before.before.before.before.text_of.ensures))
+    c.same_identifier.ensures
+    ∙ ap (λ (y : Identifier). same_identifier y c.args.x) (c.identifier_of.ensures ∙ ap identifier_of (text-part c.text_of-text.result c.args.x c.text_of-text.ensures))
     ∙ sym
-    (stored-else c.before.before.before.before.before.before.before.before.before.before.before.before.before.before.args.x
-    (ap is_identifier (sym (text-part c.before.before.before.before.before.before.before.before.before.before.before.before.before.text_of.result c.before.before.before.before.before.before.before.before.before.before.before.before.before.before.args.x c.before.before.before.before.before.before.before.before.before.before.before.before.before.text_of.ensures)) ∙ sym c.before.before.before.before.before.before.before.before.before.is-identifier.ensures ∙ not-false c.before.before.before.before.before.before.before.before.before.is-identifier.result c.before.before.before.before.before.before.before.before.if2.false))
+    (stored-else c.args.x
+    (ap is_identifier (sym (text-part c.text_of-text.result c.args.x c.text_of-text.ensures)) ∙ sym c.is_identifier.ensures ∙ not-false c.is_identifier.result c.if-not-is_identifier.false-raw))
 
-pub is-stored-spec : {M : Type 1} → statement M
-is-stored-spec =
+pub is_stored_spec : {M : Type 1} → statement M
+is_stored_spec =
     tie.close
     (tie.spec
     text-of-requires

@@ -8,5 +8,5 @@ returns : tie.Need-returns
 unfolding is_stored_uetr
 returns c = refl
 
-pub is-stored-uetr-spec : {M : Type 1} → statement M
-is-stored-uetr-spec = tie.close (tie.spec returns)
+pub is_stored_uetr_spec : {M : Type 1} → statement M
+is_stored_uetr_spec = tie.close (tie.spec returns)

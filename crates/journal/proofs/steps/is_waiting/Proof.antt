@@ -9,5 +9,5 @@ returns : tie.Need-returns
 unfolding is_waiting kind_number status_number
 returns c = refl
 
-pub is-waiting-spec : {M : Type 1} → statement M
-is-waiting-spec = tie.close (tie.spec returns)
+pub is_waiting_spec : {M : Type 1} → statement M
+is_waiting_spec = tie.close (tie.spec returns)

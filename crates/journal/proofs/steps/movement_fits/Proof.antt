@@ -7,25 +7,25 @@ use Rattle.journal.proofs.steps.movement_fits.Tie as tie
 moves-requires : tie.Need-moves-requires
 moves-requires c κs = tt
 
-is-waiting-requires : tie.Need-is-waiting-requires
+is-waiting-requires : tie.Need-is_waiting-requires
 is-waiting-requires c κs = tt
 
-is-movement-requires : tie.Need-is-movement-requires
+is-movement-requires : tie.Need-is_movement-requires
 is-movement-requires c κs = tt
 
-returns : tie.Need-returns
+returns : tie.Need-returns-then-moves-is_waiting
 unfolding movement_fits
-returns c = rw (sym c.before.before.before.moves.ensures, sym c.before.before.is-waiting.ensures, c.before.if1.true, c.is-movement.ensures)
+returns c = rw (sym c.moves.ensures, sym c.is_waiting.ensures, c.if-moves-is_waiting.true, c.is_movement.ensures)
 
-no-movement-requires : tie.Need-no-movement-requires
+no-movement-requires : tie.Need-no_movement-requires
 no-movement-requires c κs = tt
 
-returns-2 : tie.Need-returns-2
+returns-2 : tie.Need-returns
 unfolding movement_fits
-returns-2 c = rw (sym c.before.before.before.moves.ensures, sym c.before.before.is-waiting.ensures, c.before.if1.false, c.no-movement.ensures)
+returns-2 c = rw (sym c.moves.ensures, sym c.is_waiting.ensures, c.if-moves-is_waiting.false, c.no_movement.ensures)
 
-pub movement-fits-spec : {M : Type 1} → statement M
-movement-fits-spec =
+pub movement_fits_spec : {M : Type 1} → statement M
+movement_fits_spec =
     tie.close
     (tie.spec
     moves-requires

@@ -9,5 +9,5 @@ returns : tie.Need-returns
 unfolding moves kind_number status_number
 returns c = refl
 
-pub moves-spec : {M : Type 1} → statement M
-moves-spec = tie.close (tie.spec returns)
+pub moves_spec : {M : Type 1} → statement M
+moves_spec = tie.close (tie.spec returns)

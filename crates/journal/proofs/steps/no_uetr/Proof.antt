@@ -8,5 +8,5 @@ returns : tie.Need-returns
 unfolding no_uetr
 returns c = refl
 
-pub no-uetr-spec : {M : Type 1} → statement M
-no-uetr-spec = tie.close (tie.spec returns)
+pub no_uetr_spec : {M : Type 1} → statement M
+no_uetr_spec = tie.close (tie.spec returns)

@@ -8,5 +8,5 @@ returns : tie.Need-returns
 unfolding same_settings
 returns c = refl
 
-pub same-settings-spec : {M : Type 1} → statement M
-same-settings-spec = tie.close (tie.spec returns)
+pub same_settings_spec : {M : Type 1} → statement M
+same_settings_spec = tie.close (tie.spec returns)

@@ -10,48 +10,48 @@ use Rattle.journal.proofs.TraceLaws.{look-begin, look_hit, look-miss, look-end}
 use Rattle.journal.proofs.traces.earliest.Statement.{statement}
 use Rattle.journal.proofs.traces.earliest.Tie as tie
 
-abbrev invariant-loop : tie.invariant-loop
-invariant-loop s trace count k₀ k = (count ≤ steps) × (earliest trace s ≡ first_in (leaves trace s) k (steps_from s k (count - k)))
+abbrev invariant-loop-k : tie.invariant-loop-k
+invariant-loop-k s trace count k₀ k = (count ≤ steps) × (earliest trace s ≡ first_in (leaves trace s) k (steps_from s k (count - k)))
 
-abbrev decreases-loop : tie.decreases-loop
-decreases-loop s trace count k₀ k = count - k
+abbrev decreases-loop-k : tie.decreases-loop-k
+decreases-loop-k s trace count k₀ k = count - k
 
-head-requires : tie.Need-head-requires invariant-loop decreases-loop
-head-requires c κs = c.before.requires.0
+head-requires : tie.Need-head-h-requires invariant-loop-k decreases-loop-k
+head-requires c κs = c.requires.0
 
-loop-holds : tie.Need-loop-init invariant-loop decreases-loop
-loop-holds c = (subst (λ (h : Head). h.steps ≤ steps) (sym c.head.ensures) c.before.before.requires.1, look-begin c.before.before.args.trace c.before.before.args.s.now c.head.result c.head.ensures)
+loop-holds : tie.Need-loop-k-init invariant-loop-k decreases-loop-k
+loop-holds c = (subst (λ (h : Head). h.steps ≤ steps) (sym c.head-h.ensures) c.requires.1, look-begin c.args.trace c.args.s.now c.head-h.result c.head-h.ensures)
 
-step-requires : tie.Need-step-requires invariant-loop decreases-loop
-step-requires c κs = (c.before.before.before.before.requires.0, omega (arith, c.before.loop.invariant.0, c.loop-test.true))
+step-requires : tie.Need-step-x-requires invariant-loop-k decreases-loop-k
+step-requires c κs = (c.requires.0, omega (arith, c.loop-k.invariant.0, c.loop-k-test.true))
 
-leaves-requires : tie.Need-leaves-requires invariant-loop decreases-loop
+leaves-requires : tie.Need-leaves-requires invariant-loop-k decreases-loop-k
 leaves-requires c κs =
-    let turn = c.before.before in
-    let start = turn.before.before.before in
-    (start.requires.0, start.requires.1, omega (arith, turn.loop.invariant.0, c.before.loop-test.true))
+    let turn = c in
+    let start = turn in
+    (start.requires.0, start.requires.1, omega (arith, turn.loop-k.invariant.0, c.loop-k-test.true))
 
-returns : tie.Need-returns invariant-loop decreases-loop
-returns c = sym (c.before.before.before.before.loop.invariant.1 ∙ look_hit c.before.before.before.before.before.before.before.args.trace c.before.before.before.before.before.before.before.args.s.now c.before.before.step.result c.before.before.before.before.loop.k c.before.before.before.before.before.head.result.steps c.before.before.before.loop-test.true c.before.before.step.ensures (sym c.before.leaves.ensures ∙ c.if1.true))
+returns : tie.Need-returns-then-leaves invariant-loop-k decreases-loop-k
+returns c = sym (c.loop-k.invariant.1 ∙ look_hit c.args.trace c.args.s.now c.step-x.result c.loop-k.k c.head-h.result.steps c.loop-k-test.true c.step-x.ensures (sym c.leaves.ensures ∙ c.if-leaves.true))
 
-add-k : tie.Need-overflow-add-k invariant-loop decreases-loop
-add-k c = omega (arith, c.before.before.before.before.loop.invariant.0, c.before.before.before.loop-test.true)
+add-k : tie.Need-overflow_add-k invariant-loop-k decreases-loop-k
+add-k c = omega (arith, c.loop-k.invariant.0, c.loop-k-test.true)
 
-loop-less : tie.Need-loop-smaller invariant-loop decreases-loop
-loop-less c = omega (arith, c.before.before.before.loop-test.true)
+loop-less : tie.Need-loop-k-smaller invariant-loop-k decreases-loop-k
+loop-less c = omega (arith, c.loop-k-test.true)
 
-loop-again : tie.Need-loop-preserved invariant-loop decreases-loop
-loop-again c = (c.before.before.before.before.loop.invariant.0, c.before.before.before.before.loop.invariant.1 ∙ look-miss c.before.before.before.before.before.before.before.args.trace c.before.before.before.before.before.before.before.args.s.now c.before.before.step.result c.before.before.before.before.loop.k c.before.before.before.before.before.head.result.steps c.before.before.before.loop-test.true c.before.before.step.ensures (sym c.before.leaves.ensures ∙ c.if1.false))
+loop-again : tie.Need-loop-k-preserved invariant-loop-k decreases-loop-k
+loop-again c = (c.loop-k.invariant.0, c.loop-k.invariant.1 ∙ look-miss c.args.trace c.args.s.now c.step-x.result c.loop-k.k c.head-h.result.steps c.loop-k-test.true c.step-x.ensures (sym c.leaves.ensures ∙ c.if-leaves.false))
 
-returns-2 : tie.Need-returns-2 invariant-loop decreases-loop
-returns-2 c = sym (c.before.loop.invariant.1 ∙ look-end c.before.before.before.before.args.trace c.before.before.before.before.args.s.now c.before.loop.k c.before.before.head.result.steps c.loop-test.false)
+returns-2 : tie.Need-returns invariant-loop-k decreases-loop-k
+returns-2 c = sym (c.loop-k.invariant.1 ∙ look-end c.args.trace c.args.s.now c.loop-k.k c.head-h.result.steps c.loop-k-test.false)
 
-pub earliest-spec : {M : Type 1} → statement M
-earliest-spec =
+pub earliest_spec : {M : Type 1} → statement M
+earliest_spec =
     tie.close
     (tie.spec
-    invariant-loop
-    decreases-loop
+    invariant-loop-k
+    decreases-loop-k
     head-requires
     loop-holds
     step-requires

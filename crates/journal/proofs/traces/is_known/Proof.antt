@@ -4,22 +4,22 @@ use Rattle.journal.proofs.traces.is_known.Statement.{statement}
 use Rattle.journal.proofs.traces.is_known.Tie as tie
 
 earliest-requires : tie.Need-earliest-requires
-earliest-requires c κs = c.before.requires
+earliest-requires c κs = c.requires
 
-is-there-requires : tie.Need-is-there-requires
+is-there-requires : tie.Need-is_there-requires
 is-there-requires c κs = tt
 
 earliest-requires-2 : tie.Need-earliest-requires-2
-earliest-requires-2 c κs = c.before.before.before.requires
+earliest-requires-2 c κs = c.requires
 
-is-there-requires-2 : tie.Need-is-there-requires-2
+is-there-requires-2 : tie.Need-is_there-requires-2
 is-there-requires-2 c κs = tt
 
 returns : tie.Need-returns
 unfolding is_known
-returns c = rw (c.before.before.is-there.ensures, c.before.before.before.earliest.ensures, c.is-there2.ensures, c.before.earliest2.ensures)
+returns c = rw (c.is_there.ensures, c.earliest.ensures, c.is_there-2.ensures, c.earliest-2.ensures)
 
-pub is-known-spec : {M : Type 1} → statement M
-is-known-spec =
+pub is_known_spec : {M : Type 1} → statement M
+is_known_spec =
     tie.close
     (tie.spec earliest-requires is-there-requires earliest-requires-2 is-there-requires-2 returns)

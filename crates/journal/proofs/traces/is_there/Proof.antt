@@ -4,19 +4,19 @@ use borrow.Author.Rules.{rules}
 use Rattle.journal.proofs.traces.is_there.Statement.{statement}
 use Rattle.journal.proofs.traces.is_there.Tie as tie
 
-enum-known-x : tie.Need-enum-known-x
+enum-known-x : tie.Need-enum_known-x
 enum-known-x c = search rules
 
-enum_told : tie.Need-enum-told
+enum_told : tie.Need-enum_told-1
 enum_told c = search rules
 
-returns : tie.Need-returns
+returns : tie.Need-returns-in-Of
 unfolding is_there
-returns c = rw c.before.x.given.1
+returns c = rw c.in-Of.is
 
-returns-2 : tie.Need-returns-2
+returns-2 : tie.Need-returns-in-None
 unfolding is_there
-returns-2 c = rw c.enum_told.given.1
+returns-2 c = rw c.in-None.is
 
-pub is-there-spec : {M : Type 1} → statement M
-is-there-spec = tie.close (tie.spec enum-known-x enum_told returns returns-2)
+pub is_there_spec : {M : Type 1} → statement M
+is_there_spec = tie.close (tie.spec enum-known-x enum_told returns returns-2)

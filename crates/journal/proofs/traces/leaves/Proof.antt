@@ -5,58 +5,58 @@ use borrow.Author.Rules.{rules}
 use Rattle.journal.proofs.traces.leaves.Statement.{statement}
 use Rattle.journal.proofs.traces.leaves.Tie as tie
 
-enum-known-trace : tie.Need-enum-known-trace
+enum-known-trace : tie.Need-enum_known-trace
 enum-known-trace c = search rules
 
-same-identifier-requires : tie.Need-same-identifier-requires
+same-identifier-requires : tie.Need-same_identifier-requires
 same-identifier-requires c κs = tt
 
-enum-known-trace-2 : tie.Need-enum-known-trace-2
+enum-known-trace-2 : tie.Need-enum_known-trace-in-Payment-1
 enum-known-trace-2 c = search rules
 
-same-identifier-requires-2 : tie.Need-same-identifier-requires-2
+same-identifier-requires-2 : tie.Need-same_identifier-requires-in-Payment
 same-identifier-requires-2 c κs = tt
 
-enum-known-trace-3 : tie.Need-enum-known-trace-3
+enum-known-trace-3 : tie.Need-enum_known-trace-in-Transfer-1
 enum-known-trace-3 c = search rules
 
-same-uetr-requires : tie.Need-same-uetr-requires
+same-uetr-requires : tie.Need-same_uetr-requires
 same-uetr-requires c κs = tt
 
-enum-known-trace-4 : tie.Need-enum-known-trace-4
+enum-known-trace-4 : tie.Need-enum_known-trace-in-Waiting-1
 enum-known-trace-4 c = search rules
 
-waits-as-requires : tie.Need-waits-as-requires
-waits-as-requires c κs = c.before.before.before.before.requires
+waits-as-requires : tie.Need-waits_as-requires
+waits-as-requires c κs = c.requires
 
-enum-known-trace-5 : tie.Need-enum-known-trace-5
+enum-known-trace-5 : tie.Need-enum_known-trace-in-Due-1
 enum-known-trace-5 c = search rules
 
-waits-as-requires-2 : tie.Need-waits-as-requires-2
-waits-as-requires-2 c κs = c.before.before.before.before.before.requires
+waits-as-requires-2 : tie.Need-waits_as-requires-in-Due
+waits-as-requires-2 c κs = c.requires
 
-returns : tie.Need-returns
+returns : tie.Need-returns-in-Message
 unfolding leaves
-returns c = rw (c.before.before.before.trace.given.1, c.same-identifier.ensures)
+returns c = rw (c.in-Message.is, c.same_identifier.ensures)
 
-returns-2 : tie.Need-returns-2
+returns-2 : tie.Need-returns-in-Payment
 unfolding leaves kind_number
-returns-2 c = rw (c.before.before.before.trace2.given.1, c.same-identifier2.ensures)
+returns-2 c = rw (c.in-Payment.is, c.same_identifier-in-Payment.ensures)
 
-returns-3 : tie.Need-returns-3
+returns-3 : tie.Need-returns-in-Transfer
 unfolding leaves kind_number
-returns-3 c = rw (c.before.before.before.before.trace3.given.1, c.same-uetr.ensures)
+returns-3 c = rw (c.in-Transfer.is, c.same_uetr.ensures)
 
-returns-4 : tie.Need-returns-4
+returns-4 : tie.Need-returns-in-Waiting
 unfolding leaves
-returns-4 c = rw (c.before.before.trace4.given.1, c.waits-as.ensures)
+returns-4 c = rw (c.in-Waiting.is, c.waits_as.ensures)
 
-returns-5 : tie.Need-returns-5
+returns-5 : tie.Need-returns-in-Due
 unfolding leaves
-returns-5 c = rw (c.before.before.before.trace5.given.1, c.waits-as2.ensures)
+returns-5 c = rw (c.in-Due.is, c.waits_as-in-Due.ensures)
 
-pub leaves-spec : {M : Type 1} → statement M
-leaves-spec =
+pub leaves_spec : {M : Type 1} → statement M
+leaves_spec =
     tie.close
     (tie.spec
     enum-known-trace

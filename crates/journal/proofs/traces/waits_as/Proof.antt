@@ -6,21 +6,21 @@ use borrow.Author.Rules.{rules}
 use Rattle.journal.proofs.traces.waits_as.Statement.{statement}
 use Rattle.journal.proofs.traces.waits_as.Tie as tie
 
-same-identifier-requires : tie.Need-same-identifier-requires
+same-identifier-requires : tie.Need-same_identifier-requires
 same-identifier-requires c κs = search rules
 
-returns : tie.Need-returns
+returns : tie.Need-returns-then-not-same_identifier
 unfolding waits_as
-returns c = rw (sym c.before.same-identifier.ensures ∙ not-true c.before.same-identifier.result c.if1.true)
+returns c = rw (sym c.same_identifier.ensures ∙ not-true c.same_identifier.result c.if-not-same_identifier.true-raw)
 
 waits-requires : tie.Need-waits-requires
 waits-requires c κs = search rules
 
-returns-2 : tie.Need-returns-2
+returns-2 : tie.Need-returns
 unfolding waits_as
 returns-2 c =
-    let named = c.before.before in
-    rw (sym named.same-identifier.ensures ∙ not-false named.same-identifier.result c.before.if1.false) c.waits.ensures
+    let named = c in
+    rw (sym named.same_identifier.ensures ∙ not-false named.same_identifier.result c.if-not-same_identifier.false-raw) c.waits.ensures
 
-pub waits-as-spec : {M : Type 1} → statement M
-waits-as-spec = tie.close (tie.spec same-identifier-requires returns waits-requires returns-2)
+pub waits_as_spec : {M : Type 1} → statement M
+waits_as_spec = tie.close (tie.spec same-identifier-requires returns waits-requires returns-2)

@@ -9,29 +9,29 @@ use Rattle.journal.proofs.Moves.{appends}
 use Rattle.journal.proofs.working.append.Statement.{statement}
 use Rattle.journal.proofs.working.append.Tie as tie
 
-head-requires : tie.Need-head-requires
+head-requires : tie.Need-head-h-requires
 head-requires c κs = search rules
 
-do-effect-requires : tie.Need-do-effect-requires
+do-effect-requires : tie.Need-do_effect-requires
 do-effect-requires c κs = search rules
 
-put-step-requires : tie.Need-put-step-requires
-put-step-requires c κs = (c.before.before.before.do-effect.auto.0 ∙ c.before.before.before.before.before.before.before.before.requires.0.long, subst (λ (h : Head). h.steps < steps) (sym c.before.before.before.before.before.head.ensures) c.before.before.before.before.before.before.before.before.requires.2)
+put-step-requires : tie.Need-put_step-requires
+put-step-requires c κs = (c.do_effect.auto.s ∙ c.requires.0.long, subst (λ (h : Head). h.steps < steps) (sym c.head-h.ensures) c.requires.2)
 
-add-t14 : tie.Need-overflow-add-t14
-add-t14 c = omega (arith, subst (λ (h : Head). h.steps < steps) (sym c.before.before.before.before.before.before.before.before.before.before.head.ensures) c.before.before.before.before.before.before.before.before.before.before.before.before.before.requires.2)
+add-t14 : tie.Need-overflow_add-h
+add-t14 c = omega (arith, subst (λ (h : Head). h.steps < steps) (sym c.head-h.ensures) c.requires.2)
 
-put-head-requires : tie.Need-put-head-requires
+put-head-requires : tie.Need-put_head-requires
 put-head-requires c κs = search rules
 
-same_length : tie.Need-same-length
+same_length : tie.Need-shape_of-s
 same_length c = search rules
 
 returns : tie.Need-returns
-returns c = appends c.before.before.before.before.before.before.before.before.before.before.before.before.before.before.before.before.args.x c.before.before.before.before.before.before.before.before.before.before.before.before.before.before.before.before.args.s.now c.before.before.before.before.before.before.before.before.before.before.before.do-effect.new.0 c.before.before.before.before.before.before.before.put_step.new.0 c.before.before.put-head.new.0 c.before.before.before.before.before.before.before.before.before.before.before.before.before.head.result c.before.before.before.before.before.before.before.before.before.before.before.before.before.head.ensures c.before.before.before.before.before.before.before.before.before.before.before.do-effect.ensures c.before.before.before.before.before.before.before.put_step.ensures c.before.before.put-head.ensures
+returns c = appends c.args.x c.args.s.now c.do_effect.new.s c.put_step.new.s c.put_head.new.s c.head-h.result c.head-h.ensures c.do_effect.ensures c.put_step.ensures c.put_head.ensures
 
-pub append-spec : {M : Type 1} → statement M
-append-spec =
+pub append_spec : {M : Type 1} → statement M
+append_spec =
     tie.close
     (tie.spec
     head-requires

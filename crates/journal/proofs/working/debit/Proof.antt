@@ -6,11 +6,11 @@ use Rattle.journal.proofs.working.debit.Tie as tie
 less-requires : tie.Need-less-requires
 less-requires c κs = search rules
 
-add-b : tie.Need-overflow-add-b
+add-b : tie.Need-overflow_add-b
 add-b c = search rules
 
 returns : tie.Need-returns
-returns c = rw c.before.less.ensures
+returns c = rw c.less.ensures
 
-pub debit-spec : {M : Type 1} → statement M
-debit-spec = tie.close (tie.spec less-requires add-b returns)
+pub debit_spec : {M : Type 1} → statement M
+debit_spec = tie.close (tie.spec less-requires add-b returns)

@@ -8,77 +8,77 @@ use Rattle.journal.proofs.working.move_money.Statement.{statement}
 use Rattle.journal.proofs.working.move_money.Tie as tie
 
 -- what was read is low: the payer's turnover, and the payee's balance, though the payer's account was put in between
-payer-low : (c : tie.After-account) → c.account.result.turnover ≤ low_most
+payer-low : (c : tie.After-account-a) → c.account-a.result.turnover ≤ low_most
 payer-low c =
-    let start : tie.Start = c.before.before.before in
-    read-turnover start.args.s.now start.args.x.debit c.account.result start.requires.0 start.requires.1 c.account.ensures
+    let start : tie.Start = c.before.before in
+    read-turnover start.args.s.now start.args.x.debit c.account-a.result start.requires.0 start.requires.1 c.account-a.ensures
 
-payee-low : (c : tie.After-account2) → c.account2.result.balance ≤ low_most
+payee-low : (c : tie.After-account-b) → c.account-b.result.balance ≤ low_most
 payee-low c =
-    let start : tie.Start = c.before.before.before.before.before.before.before.before.before.before.before.before in
+    let start : tie.Start = c.before.before.before.before.before.before.before.before.before.before in
     let given = start.args in
-    let put = c.before.before.before.before.put-account2 in
-    let read = c.account2 in
-    other-balance given.s.now put.new.0 given.x.debit given.x.credit read.result c.before.before.before.before.before.debit.result
-    start.requires.0 start.requires.2 c.before.before.before.before.before.before.before.if1.false put.ensures read.ensures
+    let put = c.put_account-2 in
+    let read = c.account-b in
+    other-balance given.s.now put.new.s given.x.debit given.x.credit read.result c.debit.result
+    start.requires.0 start.requires.2 c.if-x.false put.ensures read.ensures
 
-account-requires : tie.Need-account-requires
+account-requires : tie.Need-account-a-requires
 account-requires c κs = search rules
 
 turn-requires : tie.Need-turn-requires
-turn-requires c κs = (payer-low c.before.before.before, c.before.before.before.before.before.before.requires.3)
+turn-requires c κs = (payer-low c.before.before.before, c.requires.3)
 
-put-account-requires : tie.Need-put-account-requires
+put-account-requires : tie.Need-put_account-requires
 put-account-requires c κs = search rules
 
-same_length : tie.Need-same-length
+same_length : tie.Need-shape_of-s-then-x
 same_length c = search rules
 
-returns : tie.Need-returns
+returns : tie.Need-returns-then-x
 returns c =
-    let given = c.before.before.before.before.before.before.before.before.before.before.args in
-    let read = c.before.before.before.before.before.before.before.account in
-    let turned = c.before.before.before.turn in
-    let put = c.before.before.put-account in
-    moves-one given.x given.s.now put.new.0 read.result turned.result
-    c.before.before.before.before.before.if1.true read.ensures turned.ensures put.ensures
+    let given = c.args in
+    let read = c.account-a in
+    let turned = c.turn in
+    let put = c.put_account in
+    moves-one given.x given.s.now put.new.s read.result turned.result
+    c.if-x.true read.ensures turned.ensures put.ensures
 
 debit-requires : tie.Need-debit-requires
-debit-requires c κs = (payer-low c.before.before.before, c.before.before.before.before.before.before.requires.3)
+debit-requires c κs = (payer-low c.before.before.before, c.requires.3)
 
-put-account-requires-2 : tie.Need-put-account-requires-2
+put-account-requires-2 : tie.Need-put_account-requires-2
 put-account-requires-2 c κs = search rules
 
-account-requires-2 : tie.Need-account-requires-2
+account-requires-2 : tie.Need-account-b-requires
 account-requires-2 c κs = search rules
 
 credit-requires : tie.Need-credit-requires
 credit-requires c κs =
-    (payee-low c.before, c.before.before.before.before.before.before.before.before.before.before.before.before.before.requires.3)
+    (payee-low c.before, c.requires.3)
 
-put-account-requires-3 : tie.Need-put-account-requires-3
+put-account-requires-3 : tie.Need-put_account-requires-3
 put-account-requires-3 c κs =
-    let start : tie.Start = c.before.before.before.before.before.before.before.before.before.before.before.before.before.before in
-    (c.before.before.before.before.before.before.put-account2.auto.0 ∙ start.requires.0.long, start.requires.2)
+    let start : tie.Start = c.before.before.before.before.before.before.before.before.before.before.before.before in
+    (c.put_account-2.auto.s ∙ start.requires.0.long, start.requires.2)
 
-same-length-2 : tie.Need-same-length-2
+same-length-2 : tie.Need-shape_of-s
 same-length-2 c = search rules
 
-returns-2 : tie.Need-returns-2
+returns-2 : tie.Need-returns
 returns-2 c =
-    let apart = c.before.before.before.before.before.before.before.before.before.before.before.before in
-    let given = apart.before.before.before.before.before.args in
-    let payer = apart.before.before.account in
-    let debited = c.before.before.before.before.before.before.before.before.before.before.debit in
-    let put = c.before.before.before.before.before.before.before.before.before.put-account2 in
-    let payee = c.before.before.before.before.before.account2 in
-    let credited = c.before.before.before.credit in
-    let last = c.before.before.put-account3 in
-    moves-two given.x given.s.now put.new.0 last.new.0 payer.result payee.result debited.result credited.result
-    apart.if1.false payer.ensures debited.ensures put.ensures payee.ensures credited.ensures last.ensures
+    let apart = c in
+    let given = apart.args in
+    let payer = apart.account-a in
+    let debited = c.debit in
+    let put = c.put_account-2 in
+    let payee = c.account-b in
+    let credited = c.credit in
+    let last = c.put_account-3 in
+    moves-two given.x given.s.now put.new.s last.new.s payer.result payee.result debited.result credited.result
+    apart.if-x.false payer.ensures debited.ensures put.ensures payee.ensures credited.ensures last.ensures
 
-pub move-money-spec : {M : Type 1} → statement M
-move-money-spec =
+pub move_money_spec : {M : Type 1} → statement M
+move_money_spec =
     tie.close
     (tie.spec
     account-requires

@@ -9,5 +9,5 @@ less-requires c κs = search rules
 returns : tie.Need-returns
 returns c = rw c.less.ensures
 
-pub uncredit-spec : {M : Type 1} → statement M
-uncredit-spec = tie.close (tie.spec less-requires returns)
+pub uncredit_spec : {M : Type 1} → statement M
+uncredit_spec = tie.close (tie.spec less-requires returns)

@@ -6,59 +6,59 @@ use Rattle.journal.proofs.Moves.{sets-back, rests-back, transfers-back, set-name
 use Rattle.journal.proofs.working.undo_effect.Statement.{statement}
 use Rattle.journal.proofs.working.undo_effect.Tie as tie
 
-account-requires : tie.Need-account-requires
+account-requires : tie.Need-account-a-requires
 account-requires c κs =
-    let start : tie.Start = c.before.before.before.before in
-    (start.requires.0.long, set-named start.args.x start.requires.1 c.before.if1.true)
+    let start : tie.Start = c.before.before.before in
+    (start.requires.0.long, set-named start.args.x start.requires.1 c.if-x-eq-SET.true)
 
-with-settings-requires : tie.Need-with-settings-requires
+with-settings-requires : tie.Need-with_settings-requires
 with-settings-requires c κs = search rules
 
-put-account-requires : tie.Need-put-account-requires
+put-account-requires : tie.Need-put_account-requires
 put-account-requires c κs =
     let start : tie.Start = c.before.before.before.before.before.before.before in
-    (start.requires.0.long, set-named start.args.x start.requires.1 c.before.before.before.before.if1.true)
+    (start.requires.0.long, set-named start.args.x start.requires.1 c.if-x-eq-SET.true)
 
-same_length : tie.Need-same-length
+same_length : tie.Need-shape_of-s-then-x-eq-SET
 same_length c = search rules
 
-returns : tie.Need-returns
+returns : tie.Need-returns-then-x-eq-SET
 returns c =
-    let given = c.before.before.before.before.before.before.before.before.before.before.args in
-    let read = c.before.before.before.before.before.account in
-    let settled = c.before.before.before.with-settings in
-    let put = c.before.before.put-account in
-    sets-back given.x given.s.now put.new.0 read.result settled.result
-    c.before.before.before.before.before.before.before.if1.true read.ensures settled.ensures put.ensures
+    let given = c.args in
+    let read = c.account-a in
+    let settled = c.with_settings in
+    let put = c.put_account in
+    sets-back given.x given.s.now put.new.s read.result settled.result
+    c.if-x-eq-SET.true read.ensures settled.ensures put.ensures
 
 moves-requires : tie.Need-moves-requires
 moves-requires c κs = tt
 
-returns-2 : tie.Need-returns-2
+returns-2 : tie.Need-returns-then-not-moves
 returns-2 c =
-    let given = c.before.before.before.before.before.args in
-    rests-back given.x given.s.now c.before.before.if1.false (sym c.before.moves.ensures ∙ not-true _ c.if2.true)
+    let given = c.args in
+    rests-back given.x given.s.now c.if-x-eq-SET.false (sym c.moves.ensures ∙ not-true _ c.if-not-moves.true-raw)
 
-move-back-requires : tie.Need-move-back-requires
+move-back-requires : tie.Need-move_back-requires
 move-back-requires c κs =
     let start : tie.Start = c.before.before.before.before.before.before in
-    let asked = c.before.before.moves in
-    let other = c.before.before.before.if1.false in
-    let named = sides-named start.args.x asked.result start.requires.1 other asked.ensures c.before.if2.false in
+    let asked = c.moves in
+    let other = c.if-x-eq-SET.false in
+    let named = sides-named start.args.x asked.result start.requires.1 other asked.ensures c.if-not-moves.false-raw in
     (start.requires.0, named.0, named.1, named.2)
 
-same-length-2 : tie.Need-same-length-2
+same-length-2 : tie.Need-shape_of-s
 same-length-2 c = search rules
 
-returns-3 : tie.Need-returns-3
+returns-3 : tie.Need-returns
 returns-3 c =
-    let given = c.before.before.before.before.before.before.before.before.before.args in
-    let some = sym c.before.before.before.before.before.moves.ensures ∙ not-false _ c.before.before.before.before.if2.false in
-    let moved = c.before.before.move-back in
-    transfers-back given.x given.s.now moved.new.0 c.before.before.before.before.before.before.if1.false some moved.ensures
+    let given = c.args in
+    let some = sym c.moves.ensures ∙ not-false _ c.if-not-moves.false-raw in
+    let moved = c.move_back in
+    transfers-back given.x given.s.now moved.new.s c.if-x-eq-SET.false some moved.ensures
 
-pub undo-effect-spec : {M : Type 1} → statement M
-undo-effect-spec =
+pub undo_effect_spec : {M : Type 1} → statement M
+undo_effect_spec =
     tie.close
     (tie.spec
     account-requires

@@ -9,5 +9,5 @@ less-requires c κs = search rules
 returns : tie.Need-returns
 returns c = rw c.less.ensures
 
-pub unturn-spec : {M : Type 1} → statement M
-unturn-spec = tie.close (tie.spec less-requires returns)
+pub unturn_spec : {M : Type 1} → statement M
+unturn_spec = tie.close (tie.spec less-requires returns)
