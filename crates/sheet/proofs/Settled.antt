@@ -2,9 +2,8 @@
 -- Assumes nothing.
 use mathlib.Core.Path.{◌≡◌, sym, ap, ◌∙◌}
 use denote.Ref.{Bor}
-use Rattle.shape.proofs.Single.{Settled, SettledShown, SettledWalked, one-clause, by-equation}
+use Rattle.shape.proofs.Single.{Settled, SettledShown, by-equation}
 use Rattle.sheet.specs.declared.Sheet.{Sheet}
-use Rattle.sheet.specs.declared.reader.Ahead.{Ahead}
 use Rattle.sheet.specs.declared.reader.Reader.{Reader}
 use Rattle.sheet.specs.Sheet.{Answers, sheet_of}
 use mathlib.Core.List.{List}
@@ -24,11 +23,16 @@ use Rattle.sheet.proofs.reader.part.Kinds as part-kinds
 use Rattle.sheet.proofs.reader.part.Reads as part-reads
 use Rattle.sheet.proofs.reader.shown_at.Kinds as shown-at-kinds
 use Rattle.sheet.proofs.reader.shown_at.Reads as shown-at-reads
-use Rattle.sheet.specs.contracts.reader.begin as begin-contract
-use Rattle.sheet.specs.contracts.reader.moved as moved-contract
-use Rattle.sheet.specs.contracts.reader.place as place-contract
-use Rattle.sheet.specs.contracts.reader.next as next-contract
-use Rattle.sheet.specs.contracts.reader.shown as shown-contract
+use Rattle.sheet.proofs.reader.begin.Kinds as begin-kinds
+use Rattle.sheet.proofs.reader.begin.Reads as begin-reads
+use Rattle.sheet.proofs.reader.moved.Kinds as moved-kinds
+use Rattle.sheet.proofs.reader.moved.Reads as moved-reads
+use Rattle.sheet.proofs.reader.place.Kinds as place-kinds
+use Rattle.sheet.proofs.reader.place.Reads as place-reads
+use Rattle.sheet.proofs.reader.next.Kinds as next-kinds
+use Rattle.sheet.proofs.reader.next.Reads as next-reads
+use Rattle.sheet.proofs.reader.shown.Kinds as shown-kinds
+use Rattle.sheet.proofs.reader.shown.Reads as shown-reads
 
 pub is-name-byte : Settled _ is-name-byte-kinds.ps is-name-byte-kinds.r is-name-byte-reads.Post
 is-name-byte κs a x y e f = by-equation
@@ -63,19 +67,18 @@ same-reader x y p q = ap (λ (s : Bor (List ℕ)). record { sheet = s; place = x
 by-fields : {s : Bor (List ℕ)} {n : ℕ} (x y : Reader) → (x.sheet ≡ s) × (x.place ≡ n) → (y.sheet ≡ s) × (y.place ≡ n) → x ≡ y
 by-fields x y p q = same-reader x y (by-equation p.0 q.0) (by-equation p.1 q.1)
 
--- of those over a reader, whose proofs are walks: by their own clauses
-pub begin : SettledWalked begin-contract.ended (λ M. begin-contract.clauses) Reader (λ κs x e. x)
-begin M 𝓤 𝓛 mem run κs a g x y e f = one-clause 𝓤 (by-fields x y)
+pub begin : Settled _ begin-kinds.ps begin-kinds.r begin-reads.Post
+begin κs a x y e f = by-fields x y
 
-pub moved : SettledWalked moved-contract.ended (λ M. moved-contract.clauses) Reader (λ κs x e. x)
-moved M 𝓤 𝓛 mem run κs a g x y e f = one-clause 𝓤 (by-fields x y)
+pub moved : Settled _ moved-kinds.ps moved-kinds.r moved-reads.Post
+moved κs a x y e f = by-fields x y
 
-pub place : SettledWalked place-contract.ended (λ M. place-contract.clauses) ℕ (λ κs x e. x)
-place M 𝓤 𝓛 mem run κs a g x y e f = one-clause 𝓤 by-equation
+pub place : Settled _ place-kinds.ps place-kinds.r place-reads.Post
+place κs a x y e f = by-equation
 
-pub next : SettledWalked next-contract.ended (λ M. next-contract.clauses) Ahead (λ κs x e. x)
-next M 𝓤 𝓛 mem run κs a g x y e f = one-clause 𝓤 by-equation
+pub next : Settled _ next-kinds.ps next-kinds.r next-reads.Post
+next κs a x y e f = by-equation
 
 -- of the part that is handed back, its bytes
-pub shown : SettledWalked shown-contract.ended (λ M. shown-contract.clauses) (List ℕ) (λ κs x e. x.now)
-shown M 𝓤 𝓛 mem run κs a g x y e f = one-clause 𝓤 by-equation
+pub shown : SettledShown _ shown-kinds.ps shown-kinds.r shown-reads.Post (List ℕ) (λ κs x. x.now)
+shown κs a x y e f = by-equation

@@ -41,17 +41,17 @@ refused-requires-3 : tie.Need-refused-requires-then-not-came
 refused-requires-3 c κs = search rules
 
 returns-3 : tie.Need-returns-then-not-came
-returns-3 c = both c.args.s.now _ (c.refused-then-not-came.ensures ∙ ap sheet_of (sym (outer-stopped c.args.s.now c.if-s-gt-SHEET_MOST.false (sym c.peek.ensures ∙ c.if-peek-ne60.false) c.element-came.result c.element-came.new.1.1.1.1.0 c.element-came.new.1.1.1.1.1.0 c.element-came.ensures (not-true _ c.if-not-came.true))))
+returns-3 c = both c.args.s.now _ (c.refused-then-not-came.ensures ∙ ap sheet_of (sym (outer-stopped c.args.s.now c.if-s-gt-SHEET_MOST.false (sym c.peek.ensures ∙ c.if-peek-ne60.false) c.element-came.result c.element-came.new.starts c.element-came.new.depths c.element-came.ensures (not-true _ c.if-not-came.true))))
 
 refused-requires-4 : tie.Need-refused-requires-then-place-s
 refused-requires-4 c κs = search rules
 
 returns-4 : tie.Need-returns-then-place-s
-returns-4 c = both c.args.s.now _ (c.refused-then-place-s.ensures ∙ ap sheet_of (sym (bytes-behind c.args.s.now c.if-s-gt-SHEET_MOST.false (sym c.peek.ensures ∙ c.if-peek-ne60.false) c.element-came.result c.element-came.new.1.1.1.1.0 c.element-came.new.1.1.1.1.1.0 c.element-came.ensures (not-false _ c.if-not-came.false) c.if-place-s.true)))
+returns-4 c = both c.args.s.now _ (c.refused-then-place-s.ensures ∙ ap sheet_of (sym (bytes-behind c.args.s.now c.if-s-gt-SHEET_MOST.false (sym c.peek.ensures ∙ c.if-peek-ne60.false) c.element-came.result c.element-came.new.starts c.element-came.new.depths c.element-came.ensures (not-false _ c.if-not-came.false) c.if-place-s.true)))
 
 returns-5 : tie.Need-returns
 unfolding sheet_of
-returns-5 c = both c.args.s.now _ (ap sheet_of (sym (all_read c.args.s.now c.if-s-gt-SHEET_MOST.false (sym c.peek.ensures ∙ c.if-peek-ne60.false) c.element-came.result c.element-came.new.1.1.1.1.0 c.element-came.new.1.1.1.1.1.0 c.element-came.ensures (not-false _ c.if-not-came.false) c.if-place-s.false)))
+returns-5 c = both c.args.s.now _ (ap sheet_of (sym (all_read c.args.s.now c.if-s-gt-SHEET_MOST.false (sym c.peek.ensures ∙ c.if-peek-ne60.false) c.element-came.result c.element-came.new.starts c.element-came.new.depths c.element-came.ensures (not-false _ c.if-not-came.false) c.if-place-s.false)))
 
 pub read_spec : {M : Type 1} → statement M
 read_spec =

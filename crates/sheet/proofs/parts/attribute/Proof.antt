@@ -39,7 +39,7 @@ shared-slice-read-is-next c = omega arith
 is-next-requires : tie.Need-is_next-requires invariant-loop-k decreases-loop-k
 is-next-requires c κs = tt
 
-add-t16 : tie.Need-overflow_add-result-2 invariant-loop-k decreases-loop-k
+add-t16 : tie.Need-overflow_add-result-then-not-is_next invariant-loop-k decreases-loop-k
 add-t16 c = omega arith
 
 returns-2 : tie.Need-returns-then-not-is_next invariant-loop-k decreases-loop-k
@@ -54,7 +54,7 @@ loop-less c = omega arith
 loop-again : tie.Need-loop-k-preserved invariant-loop-k decreases-loop-k
 loop-again c = (refl, omega arith, omega arith, ccy-turn c.args.s.now c.args.from c.loop-k.k c.loop-k.invariant.3 c.loop-k-test.true c.if-s-from.false (sym c.is_next.ensures ∙ not-false _ c.if-not-is_next.false-raw))
 
-add-t17 : tie.Need-overflow_add-result-then-not-is_next invariant-loop-k decreases-loop-k
+add-t17 : tie.Need-overflow_add-result-2 invariant-loop-k decreases-loop-k
 add-t17 c = omega arith
 
 returns-3 : tie.Need-returns invariant-loop-k decreases-loop-k
