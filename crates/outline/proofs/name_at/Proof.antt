@@ -8,32 +8,32 @@ use borrow.Author.Rules.{rules}
 use Rattle.outline.proofs.name_at.Statement.{statement}
 use Rattle.outline.proofs.name_at.Tie as tie
 
-slice-aggregate-result : tie.Need-slice-aggregate-result
+slice-aggregate-result : tie.Need-slice_bounds-result-end
 slice-aggregate-result c = search rules
 
-returns : tie.Need-returns
-returns c = no_name c.before.before.before.args.s.now c.before.before.before.args.start c.before.if1.true
+returns : tie.Need-returns-then-s-start
+returns c = no_name c.args.s.now c.args.start c.if-s-start.true
 
-add-from : tie.Need-overflow-add-from
+add-from : tie.Need-overflow_add-from
 add-from c = search rules
 
-name-bytes-end-requires : tie.Need-name-bytes-end-requires
+name-bytes-end-requires : tie.Need-name_bytes_end-to-requires
 name-bytes-end-requires c κs = search rules
 
-sub-result : tie.Need-overflow-sub-result
+sub-result : tie.Need-slice_bounds-result-count
 sub-result c = search rules
 
-part-result-start : tie.Need-slice-bounds-result-start
+part-result-start : tie.Need-slice_bounds-result-start
 part-result-start c = search rules
 
-part-result-end : tie.Need-slice-bounds-result-end
-part-result-end c = omega (arith, c.name-bytes-end.ensures, while-inside is_name_byte c.before.before.before.args.s.now (c.before.before.before.args.start + 1) (omega arith))
+part-result-end : tie.Need-slice_bounds-result-end-2
+part-result-end c = omega (arith, c.name_bytes_end-to.ensures, while-inside is_name_byte c.args.s.now (c.args.start + 1) (omega arith))
 
-returns-2 : tie.Need-returns-2
-returns-2 c = name-part c.before.before.before.before.args.s.now c.before.before.before.before.args.start c.before.name-bytes-end.result c.before.name-bytes-end.ensures
+returns-2 : tie.Need-returns
+returns-2 c = name-part c.args.s.now c.args.start c.name_bytes_end-to.result c.name_bytes_end-to.ensures
 
-pub name-at-spec : {M : Type 1} → statement M
-name-at-spec =
+pub name_at_spec : {M : Type 1} → statement M
+name_at_spec =
     tie.close
     (tie.spec
     slice-aggregate-result

@@ -12,41 +12,41 @@ use Rattle.outline.proofs.parts_at.Tie as tie
 nothing-requires : tie.Need-nothing-requires
 nothing-requires c κs = search rules
 
-returns : tie.Need-returns
-returns c = c.nothing.ensures ∙ past_the_end c.before.before.before.args.s.now c.before.before.before.args.start c.before.if1.true
+returns : tie.Need-returns-then-s-start
+returns c = c.nothing.ensures ∙ past_the_end c.args.s.now c.args.start c.if-s-start.true
 
-add-name-bytes-end : tie.Need-overflow-add-name-bytes-end
+add-name-bytes-end : tie.Need-overflow_add-start
 add-name-bytes-end c = search rules
 
-name-bytes-end-requires : tie.Need-name-bytes-end-requires
+name-bytes-end-requires : tie.Need-name_bytes_end-to-requires
 name-bytes-end-requires c κs = search rules
 
-peek-requires : tie.Need-peek-requires
+peek-requires : tie.Need-peek-ccy-requires
 peek-requires c κs = search rules
 
-behind-tag-requires : tie.Need-behind-tag-requires
-behind-tag-requires c κs = omega (arith, c.before.name-bytes-end.ensures, while-inside is_name_byte c.before.before.before.before.args.s.now (c.before.before.before.before.args.start + 1) (omega arith), c.before.before.before.before.well-formed.0)
+behind-tag-requires : tie.Need-behind_tag-inside-requires
+behind-tag-requires c κs = omega (arith, c.name_bytes_end-to.ensures, while-inside is_name_byte c.args.s.now (c.args.start + 1) (omega arith), c.before.before.before.before.well_formed.0)
 
-nothing-requires-2 : tie.Need-nothing-requires-2
+nothing-requires-2 : tie.Need-nothing-requires-then-s-inside
 nothing-requires-2 c κs = search rules
 
-returns-2 : tie.Need-returns-2
-returns-2 c = c.nothing2.ensures ∙ cut_off c.before.before.before.before.before.before.before.args.s.now c.before.before.before.before.before.before.before.args.start c.before.before.before.before.name-bytes-end.result c.before.before.before.peek.result c.before.before.behind-tag.result c.before.before.before.before.before.if1.false c.before.before.before.before.name-bytes-end.ensures c.before.before.before.peek.ensures c.before.before.behind-tag.ensures c.before.if2.true
+returns-2 : tie.Need-returns-then-s-inside
+returns-2 c = c.nothing-then-s-inside.ensures ∙ cut_off c.args.s.now c.args.start c.name_bytes_end-to.result c.peek-ccy.result c.behind_tag-inside.result c.if-s-start.false c.name_bytes_end-to.ensures c.peek-ccy.ensures c.behind_tag-inside.ensures c.if-s-inside.true
 
-next-at-requires : tie.Need-next-at-requires
+next-at-requires : tie.Need-next_at-requires
 next-at-requires c κs = search rules
 
-enum-known-end : tie.Need-enum-known-end
+enum-known-end : tie.Need-enum_known-end
 enum-known-end c = search rules
 
-returns-3 : tie.Need-returns-3
-returns-3 c = with-text c.before.before.before.before.before.before.before.before.before.before.args.s.now c.before.before.before.before.before.before.before.before.before.before.args.start c.before.before.before.before.before.before.before.name-bytes-end.result c.before.before.before.before.before.before.peek.result c.before.before.before.before.before.behind-tag.result c.before.before.before.before.before.before.before.before.if1.false c.before.before.before.before.before.before.before.name-bytes-end.ensures c.before.before.before.before.before.before.peek.ensures c.before.before.before.before.before.behind-tag.ensures c.before.before.before.before.if2.false c.before.before.before.next-at.result c.before.before.before.next-at.ensures _ c.before.end.given.1
+returns-3 : tie.Need-returns-in-Text
+returns-3 c = with-text c.args.s.now c.args.start c.name_bytes_end-to.result c.peek-ccy.result c.behind_tag-inside.result c.if-s-start.false c.name_bytes_end-to.ensures c.peek-ccy.ensures c.behind_tag-inside.ensures c.if-s-inside.false c.next_at.result c.next_at.ensures _ c.in-Text.is
 
-returns-4 : tie.Need-returns-4
-returns-4 c = without-text c.before.before.before.before.before.before.before.before.args.s.now c.before.before.before.before.before.before.before.before.args.start c.before.before.before.before.before.name-bytes-end.result c.before.before.before.before.peek.result c.before.before.before.behind-tag.result c.before.before.before.before.before.before.if1.false c.before.before.before.before.before.name-bytes-end.ensures c.before.before.before.before.peek.ensures c.before.before.before.behind-tag.ensures c.before.before.if2.false c.before.next-at.result c.before.next-at.ensures c.match.keys2
+returns-4 : tie.Need-returns
+returns-4 c = without-text c.args.s.now c.args.start c.name_bytes_end-to.result c.peek-ccy.result c.behind_tag-inside.result c.if-s-start.false c.name_bytes_end-to.ensures c.peek-ccy.ensures c.behind_tag-inside.ensures c.if-s-inside.false c.next_at.result c.next_at.ensures c.in_default.in_default-own.keys2
 
-pub parts-at-spec : {M : Type 1} → statement M
-parts-at-spec =
+pub parts_at_spec : {M : Type 1} → statement M
+parts_at_spec =
     tie.close
     (tie.spec
     nothing-requires
