@@ -6,20 +6,20 @@ use Rattle.paths.proofs.Whole.{surveyed-refused, surveyed-accepted}
 use Rattle.paths.proofs.survey.Statement.{statement}
 use Rattle.paths.proofs.survey.Tie as tie
 
-read-requires : tie.Need-read-requires
+read-requires : tie.Need-read-sheet-requires
 read-requires c κs = tt
 
 unread-requires : tie.Need-unread-requires
 unread-requires c κs = tt
 
-returns : tie.Need-returns
-returns c = c.unread.ensures ∙ surveyed-refused c.before.before.before.before.before.args.s.now c.before.before.before.read.result c.before.before.before.read.ensures.1 (not-true _ c.before.if1.true)
+returns : tie.Need-returns-then-not-sheet
+returns c = c.unread.ensures ∙ surveyed-refused c.args.s.now c.read-sheet.result c.read-sheet.ensures.1 (not-true _ c.if-not-sheet.true)
 
 walk-requires : tie.Need-walk-requires
-walk-requires c κs = within c.before.before.before.before.before.before.before.before.args.s.now c.before.before.before.before.before.before.read.result c.before.before.before.before.before.before.read.ensures.0 (not-false _ c.before.before.before.before.if1.false)
+walk-requires c κs = within c.args.s.now c.read-sheet.result c.read-sheet.ensures.0 (not-false _ c.if-not-sheet.false)
 
-returns-2 : tie.Need-returns-2
-returns-2 c = c.walk.ensures ∙ surveyed-accepted c.before.before.before.before.before.before.before.before.before.args.s.now c.before.before.before.before.before.before.before.read.result c.before.before.before.before.before.before.before.read.ensures.1 (not-false _ c.before.before.before.before.before.if1.false)
+returns-2 : tie.Need-returns
+returns-2 c = c.walk.ensures ∙ surveyed-accepted c.args.s.now c.read-sheet.result c.read-sheet.ensures.1 (not-false _ c.if-not-sheet.false)
 
-pub survey-spec : {M : Type 1} → statement M
-survey-spec = tie.close (tie.spec read-requires unread-requires returns walk-requires returns-2)
+pub survey_spec : {M : Type 1} → statement M
+survey_spec = tie.close (tie.spec read-requires unread-requires returns walk-requires returns-2)

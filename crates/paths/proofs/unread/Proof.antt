@@ -8,5 +8,5 @@ returns : tie.Need-returns
 unfolding standing_of
 returns c = refl
 
-pub unread-spec : {M : Type 1} → statement M
-unread-spec = tie.close (tie.spec returns)
+pub unread_spec : {M : Type 1} → statement M
+unread_spec = tie.close (tie.spec returns)

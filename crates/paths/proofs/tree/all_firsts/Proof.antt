@@ -8,5 +8,5 @@ returns : tie.Need-returns
 unfolding firsts
 returns c = refl
 
-pub all-firsts-spec : {M : Type 1} → statement M
-all-firsts-spec = tie.close (tie.spec returns)
+pub all_firsts_spec : {M : Type 1} → statement M
+all_firsts_spec = tie.close (tie.spec returns)

@@ -10,16 +10,16 @@ use Rattle.paths.proofs.Table.{firsts-count, firsts-low}
 use Rattle.paths.proofs.tree.first.Statement.{statement}
 use Rattle.paths.proofs.tree.first.Tie as tie
 
-mul-result : tie.Need-overflow-mul-result
+mul-result : tie.Need-offset_bounds-starts-node
 mul-result c = search rules
 
-element-copy-out-result : tie.Need-element-copy-out-result
+element-copy-out-result : tie.Need-bounds-starts-node
 element-copy-out-result c = omega (arith, ap length c.requires.0 ∙ firsts-count)
 
 returns : tie.Need-returns
 returns c = (
-  ap (λ (l : List ℕ). get_or l c.before.args.node 0) c.before.requires.0,
-  subst (λ (l : List ℕ). get_or l c.before.args.node 0 ≤ nodes) (sym c.before.requires.0) (firsts-low _ c.before.requires.1),
+  ap (λ (l : List ℕ). get_or l c.args.node 0) c.requires.0,
+  subst (λ (l : List ℕ). get_or l c.args.node 0 ≤ nodes) (sym c.requires.0) (firsts-low _ c.requires.1),
 )
 
 pub first_spec : {M : Type 1} → statement M

@@ -10,63 +10,63 @@ use Rattle.paths.proofs.Named.{name-too-long, name-differs, name-agrees, name-en
 use Rattle.paths.proofs.tree.is_named.Statement.{statement}
 use Rattle.paths.proofs.tree.is_named.Tie as tie
 
-abbrev invariant-loop : tie.invariant-loop
-invariant-loop lines node name l i₀ i = (length l ≡ name_wide) × (length name < name_wide) × (i ≤ length name)
+abbrev invariant-loop-i : tie.invariant-loop-i
+invariant-loop-i lines node name l i₀ i = (length l ≡ name_wide) × (length name < name_wide) × (i ≤ length name)
     × (same_name (name_of node) name ≡ same_name (before_blank (drop i l)) (drop i name))
 
-abbrev decreases-loop : tie.decreases-loop
-decreases-loop lines node name l i₀ i = length name - i
+abbrev decreases-loop-i : tie.decreases-loop-i
+decreases-loop-i lines node name l i₀ i = length name - i
 
-returns : tie.Need-returns invariant-loop decreases-loop
-returns c = sym (name-too-long _ _ c.before.before.requires.1 c.if1.true)
+returns : tie.Need-returns-then-name-ge-NAME_WIDE invariant-loop-i decreases-loop-i
+returns c = sym (name-too-long _ _ c.requires.1 c.if-name-ge-NAME_WIDE.true)
 
-line-requires : tie.Need-line-requires invariant-loop decreases-loop
-line-requires c κs = c.before.before.requires
+line-requires : tie.Need-line-l-requires invariant-loop-i decreases-loop-i
+line-requires c κs = c.requires
 
-loop-holds : tie.Need-loop-init invariant-loop decreases-loop
+loop-holds : tie.Need-loop-i-init invariant-loop-i decreases-loop-i
 unfolding name_of
 loop-holds c = (
-  ap length c.line.ensures ∙ line-long _ c.before.before.before.requires.1,
+  ap length c.line-l.ensures ∙ line-long _ c.requires.1,
   omega arith,
   omega arith,
-  ap (λ l. same_name (before_blank l) c.before.before.before.args.name.now) (sym c.line.ensures),
+  ap (λ l. same_name (before_blank l) c.args.name.now) (sym c.line-l.ensures),
 )
 
-shared-slice-read-b : tie.Need-shared-slice-read-b invariant-loop decreases-loop
+shared-slice-read-b : tie.Need-bounds-name-i invariant-loop-i decreases-loop-i
 shared-slice-read-b c = omega arith
 
-array-read-if2 : tie.Need-array-read-if2 invariant-loop decreases-loop
+array-read-if2 : tie.Need-bounds-l-i invariant-loop-i decreases-loop-i
 array-read-if2 c = omega arith
 
-returns-2 : tie.Need-returns-2 invariant-loop decreases-loop
-returns-2 c = sym (c.before.before.before.loop.invariant.3 ∙ name-differs c.before.before.before.before.line.result c.before.before.before.before.before.before.before.args.name.now c.before.before.before.loop.i (omega (arith, c.before.before.before.loop.invariant.0)) (omega arith) c.if2.true)
+returns-2 : tie.Need-returns-then-l-i invariant-loop-i decreases-loop-i
+returns-2 c = sym (c.loop-i.invariant.3 ∙ name-differs c.line-l.result c.args.name.now c.loop-i.i (omega (arith, c.loop-i.invariant.0)) (omega arith) c.if-l-i.true)
 
-add-i : tie.Need-overflow-add-i invariant-loop decreases-loop
+add-i : tie.Need-overflow_add-i invariant-loop-i decreases-loop-i
 add-i c = omega arith
 
-loop-less : tie.Need-loop-smaller invariant-loop decreases-loop
+loop-less : tie.Need-loop-i-smaller invariant-loop-i decreases-loop-i
 loop-less c = omega arith
 
-loop-again : tie.Need-loop-preserved invariant-loop decreases-loop
+loop-again : tie.Need-loop-i-preserved invariant-loop-i decreases-loop-i
 loop-again c = (
-  c.before.before.before.loop.invariant.0,
-  c.before.before.before.loop.invariant.1,
+  c.loop-i.invariant.0,
+  c.loop-i.invariant.1,
   omega arith,
-  c.before.before.before.loop.invariant.3 ∙ name-agrees c.before.before.before.before.line.result c.before.before.before.before.before.before.before.args.name.now c.before.before.before.loop.i (omega (arith, c.before.before.before.loop.invariant.0)) (omega arith) c.if2.false,
+  c.loop-i.invariant.3 ∙ name-agrees c.line-l.result c.args.name.now c.loop-i.i (omega (arith, c.loop-i.invariant.0)) (omega arith) c.if-l-i.false,
 )
 
-array-read-result : tie.Need-array-read-result invariant-loop decreases-loop
+array-read-result : tie.Need-bounds-l-i-2 invariant-loop-i decreases-loop-i
 array-read-result c = omega arith
 
-returns-3 : tie.Need-returns-3 invariant-loop decreases-loop
-returns-3 c = sym (c.before.loop.invariant.3 ∙ name-ends c.before.before.line.result c.before.before.before.before.before.args.name.now c.before.loop.i (omega (arith, c.before.loop.invariant.0)) (omega arith))
+returns-3 : tie.Need-returns invariant-loop-i decreases-loop-i
+returns-3 c = sym (c.loop-i.invariant.3 ∙ name-ends c.line-l.result c.args.name.now c.loop-i.i (omega (arith, c.loop-i.invariant.0)) (omega arith))
 
-pub is-named-spec : {M : Type 1} → statement M
-is-named-spec =
+pub is_named_spec : {M : Type 1} → statement M
+is_named_spec =
     tie.close
     (tie.spec
-    invariant-loop
-    decreases-loop
+    invariant-loop-i
+    decreases-loop-i
     returns
     line-requires
     loop-holds

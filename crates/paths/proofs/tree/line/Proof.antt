@@ -9,14 +9,14 @@ use Rattle.paths.proofs.Table.{names-count}
 use Rattle.paths.proofs.tree.line.Statement.{statement}
 use Rattle.paths.proofs.tree.line.Tie as tie
 
-mul-result : tie.Need-overflow-mul-result
+mul-result : tie.Need-offset_bounds-lines-node
 mul-result c = search rules
 
-element-copy-out-result : tie.Need-element-copy-out-result
+element-copy-out-result : tie.Need-bounds-lines-node
 element-copy-out-result c = omega (arith, ap length c.requires.0 ∙ names-count)
 
 returns : tie.Need-returns
-returns c = ap (λ (l : List (List ℕ)). get_or l c.before.args.node []) c.before.requires.0
+returns c = ap (λ (l : List (List ℕ)). get_or l c.args.node []) c.requires.0
 
-pub line-spec : {M : Type 1} → statement M
-line-spec = tie.close (tie.spec mul-result element-copy-out-result returns)
+pub line_spec : {M : Type 1} → statement M
+line_spec = tie.close (tie.spec mul-result element-copy-out-result returns)
