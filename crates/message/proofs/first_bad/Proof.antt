@@ -9,78 +9,78 @@ use Rattle.message.proofs.Turns.{Left, bad-begin, bad-passes, bad-stops, bad-end
 use Rattle.message.proofs.first_bad.Statement.{statement}
 use Rattle.message.proofs.first_bad.Tie as tie
 
-abbrev invariant-loop : tie.invariant-loop
-invariant-loop s kind counts starts n k₀ k = (n ≡ length (fields_of kind)) × (n ≤ fields_most) × (k ≤ n) × Left s kind counts starts k
+abbrev invariant-loop-k : tie.invariant-loop-k
+invariant-loop-k s kind counts starts n k₀ k = (n ≡ length (fields_of kind)) × (n ≤ fields_most) × (k ≤ n) × Left s kind counts starts k
 
-abbrev decreases-loop : tie.decreases-loop
-decreases-loop s kind counts starts n k₀ k = n - k
+abbrev decreases-loop-k : tie.decreases-loop-k
+decreases-loop-k s kind counts starts n k₀ k = n - k
 
-field-count-requires : tie.Need-field-count-requires invariant-loop decreases-loop
+field-count-requires : tie.Need-field_count-n-requires invariant-loop-k decreases-loop-k
 field-count-requires c κs = tt
 
-loop-holds : tie.Need-loop-init invariant-loop decreases-loop
+loop-holds : tie.Need-loop-k-init invariant-loop-k decreases-loop-k
 loop-holds c =
-    let start = c.before.before.args in
-    (c.field-count.ensures.0, c.field-count.ensures.1, omega arith, bad-begin start.s.now start.kind start.counts.now start.starts.now)
+    let start = c.args in
+    (c.field_count-n.ensures.0, c.field_count-n.ensures.1, omega arith, bad-begin start.s.now start.kind start.counts.now start.starts.now)
 
-entry-at-requires : tie.Need-entry-at-requires invariant-loop decreases-loop
-entry-at-requires c κs = omega (arith, c.before.loop.invariant.0)
+entry-at-requires : tie.Need-entry_at-e-requires invariant-loop-k decreases-loop-k
+entry-at-requires c κs = omega (arith, c.loop-k.invariant.0)
 
-mul-is-good : tie.Need-overflow-mul-is-good invariant-loop decreases-loop
-mul-is-good c = omega (arith, c.entry_at.ensures.1)
+mul-is-good : tie.Need-offset_bounds-counts-node invariant-loop-k decreases-loop-k
+mul-is-good c = omega (arith, c.entry_at-e.ensures.1)
 
-element-copy-out-is-good : tie.Need-element-copy-out-is-good invariant-loop decreases-loop
-element-copy-out-is-good c = omega (arith, c.entry_at.ensures.1, c.before.before.before.before.before.requires.0)
+element-copy-out-is-good : tie.Need-bounds-counts-node invariant-loop-k decreases-loop-k
+element-copy-out-is-good c = omega (arith, c.entry_at-e.ensures.1, c.requires.0)
 
-mul-is-good-2 : tie.Need-overflow-mul-is-good-2 invariant-loop decreases-loop
-mul-is-good-2 c = omega (arith, c.before.entry_at.ensures.1)
+mul-is-good-2 : tie.Need-offset_bounds-starts-node invariant-loop-k decreases-loop-k
+mul-is-good-2 c = omega (arith, c.entry_at-e.ensures.1)
 
-element-copy-out-is-good-2 : tie.Need-element-copy-out-is-good-2 invariant-loop decreases-loop
-element-copy-out-is-good-2 c = omega (arith, c.before.entry_at.ensures.1, c.before.before.before.before.before.before.requires.1)
+element-copy-out-is-good-2 : tie.Need-bounds-starts-node invariant-loop-k decreases-loop-k
+element-copy-out-is-good-2 c = omega (arith, c.entry_at-e.ensures.1, c.requires.1)
 
-is-good-requires : tie.Need-is-good-requires invariant-loop decreases-loop
+is-good-requires : tie.Need-is_good-good-requires invariant-loop-k decreases-loop-k
 is-good-requires c κs = tt
 
-add-k : tie.Need-overflow-add-k invariant-loop decreases-loop
+add-k : tie.Need-overflow_add-k invariant-loop-k decreases-loop-k
 add-k c = omega arith
 
-goes-with-requires : tie.Need-goes-with-requires invariant-loop decreases-loop
-goes-with-requires c κs = c.before.before.before.before.before.before.before.before.requires
+goes-with-requires : tie.Need-goes_with-requires invariant-loop-k decreases-loop-k
+goes-with-requires c κs = c.requires
 
-returns : tie.Need-returns invariant-loop decreases-loop
+returns : tie.Need-returns-then-not-good-goes_with invariant-loop-k decreases-loop-k
 returns c =
-    let looked = c.before.before.before.before.before in
-    let turn = looked.before.before.loop in
-    let start = looked.before.before.before.before.before.args in
-    bad-stops start.s.now start.kind start.counts.now start.starts.now turn.k looked.entry_at.result
-    c.before.before.is-good.result c.before.Goes-with.result turn.invariant.3 looked.entry_at.ensures.0
-    c.before.before.is-good.ensures c.before.Goes-with.ensures (omega (arith, turn.invariant.0)) (not-true _ c.if1.true)
+    let looked = c in
+    let turn = looked.loop-k in
+    let start = looked.args in
+    bad-stops start.s.now start.kind start.counts.now start.starts.now turn.k looked.entry_at-e.result
+    c.is_good-good.result c.goes_with.result turn.invariant.3 looked.entry_at-e.ensures.0
+    c.is_good-good.ensures c.goes_with.ensures (omega (arith, turn.invariant.0)) (not-true _ c.if-not-good-goes_with.true-raw)
 
-loop-less : tie.Need-loop-smaller invariant-loop decreases-loop
+loop-less : tie.Need-loop-k-smaller invariant-loop-k decreases-loop-k
 loop-less c = omega arith
 
-loop-again : tie.Need-loop-preserved invariant-loop decreases-loop
+loop-again : tie.Need-loop-k-preserved invariant-loop-k decreases-loop-k
 loop-again c =
-    let looked = c.before.before.before.before.before in
-    let turn = looked.before.before.loop in
-    let start = looked.before.before.before.before.before.args in
-    let left = bad-passes start.s.now start.kind start.counts.now start.starts.now turn.k looked.entry_at.result
-    c.before.before.is-good.result c.before.Goes-with.result turn.invariant.3 looked.entry_at.ensures.0
-    c.before.before.is-good.ensures c.before.Goes-with.ensures (omega (arith, turn.invariant.0)) (not-false _ c.if1.false) in
+    let looked = c in
+    let turn = looked.loop-k in
+    let start = looked.args in
+    let left = bad-passes start.s.now start.kind start.counts.now start.starts.now turn.k looked.entry_at-e.result
+    c.is_good-good.result c.goes_with.result turn.invariant.3 looked.entry_at-e.ensures.0
+    c.is_good-good.ensures c.goes_with.ensures (omega (arith, turn.invariant.0)) (not-false _ c.if-not-good-goes_with.false-raw) in
     (turn.invariant.0, turn.invariant.1, omega arith, left)
 
-returns-2 : tie.Need-returns-2 invariant-loop decreases-loop
+returns-2 : tie.Need-returns invariant-loop-k decreases-loop-k
 returns-2 c =
-    let turn = c.before.loop in
-    let start = c.before.before.before.before.args in
+    let turn = c.loop-k in
+    let start = c.args in
     bad-ends start.s.now start.kind start.counts.now start.starts.now turn.k turn.invariant.3 (omega (arith, turn.invariant.0))
 
-pub first-bad-spec : {M : Type 1} → statement M
-first-bad-spec =
+pub first_bad_spec : {M : Type 1} → statement M
+first_bad_spec =
     tie.close
     (tie.spec
-    invariant-loop
-    decreases-loop
+    invariant-loop-k
+    decreases-loop-k
     field-count-requires
     loop-holds
     entry-at-requires

@@ -7,29 +7,29 @@ use Rattle.message.proofs.Judged.{numbers_fit, judged-bad, judged-good}
 use Rattle.message.proofs.receive_as.Statement.{statement}
 use Rattle.message.proofs.receive_as.Tie as tie
 
-first-bad-requires : tie.Need-first-bad-requires
-first-bad-requires c κs = c.before.requires
+first-bad-requires : tie.Need-first_bad-bad-requires
+first-bad-requires c κs = c.requires
 
 refused-requires : tie.Need-refused-requires
 refused-requires c κs = tt
 
-returns : tie.Need-returns
-returns c = c.refused.ensures ∙ judged-bad c.before.before.before.before.args.s.now c.before.before.before.before.args.kind c.before.before.before.before.args.counts.now c.before.before.before.before.args.starts.now c.before.before.first-bad.result c.before.before.first-bad.ensures c.before.if1.true
+returns : tie.Need-returns-then-bad-ne0
+returns c = c.refused.ensures ∙ judged-bad c.args.s.now c.args.kind c.args.counts.now c.args.starts.now c.first_bad-bad.result c.first_bad-bad.ensures c.if-bad-ne0.true
 
-spots-of-requires : tie.Need-spots-of-requires
-spots-of-requires c κs = c.before.before.before.requires
+spots-of-requires : tie.Need-spots_of-spots-requires
+spots-of-requires c κs = c.requires
 
-currency-requires : tie.Need-currency-requires
-currency-requires c κs = c.before.before.before.before.before.before.requires
+currency-requires : tie.Need-currency-paid_in-requires
+currency-requires c κs = c.requires
 
-message-of-requires : tie.Need-message-of-requires
-message-of-requires c κs = (numbers_fit c.before.before.before.before.before.spots-of.result.starts (map start_in (held_seen c.before.before.before.before.before.before.before.before.before.args.s.now c.before.before.before.before.before.before.before.before.before.args.kind c.before.before.before.before.before.before.before.before.before.args.counts.now c.before.before.before.before.before.before.before.before.before.args.starts.now)) c.before.before.before.before.before.spots-of.ensures.0, numbers_fit c.before.before.before.before.before.spots-of.result.lengths (map length_in (held_seen c.before.before.before.before.before.before.before.before.before.args.s.now c.before.before.before.before.before.before.before.before.before.args.kind c.before.before.before.before.before.before.before.before.before.args.counts.now c.before.before.before.before.before.before.before.before.before.args.starts.now)) c.before.before.before.before.before.spots-of.ensures.1)
+message-of-requires : tie.Need-message_of-message-requires
+message-of-requires c κs = (numbers_fit c.spots_of-spots.result.starts (map start_in (held_seen c.args.s.now c.args.kind c.args.counts.now c.args.starts.now)) c.spots_of-spots.ensures.0, numbers_fit c.spots_of-spots.result.lengths (map length_in (held_seen c.args.s.now c.args.kind c.args.counts.now c.args.starts.now)) c.spots_of-spots.ensures.1)
 
-returns-2 : tie.Need-returns-2
-returns-2 c = judged-good c.before.before.before.before.before.before.before.before.before.before.args.s.now c.before.before.before.before.before.before.before.before.before.before.args.kind c.before.before.before.before.before.before.before.before.before.before.args.counts.now c.before.before.before.before.before.before.before.before.before.before.args.starts.now c.before.before.before.before.before.before.before.before.first-bad.result c.before.before.before.before.before.before.before.before.first-bad.ensures c.before.before.before.before.before.before.before.if1.false c.before.before.before.before.before.before.spots-of.result.starts c.before.before.before.before.before.before.spots-of.result.lengths c.before.before.before.currency.result c.message-of.result c.before.before.before.before.before.before.spots-of.ensures.0 c.before.before.before.before.before.before.spots-of.ensures.1 c.before.before.before.currency.ensures c.message-of.ensures
+returns-2 : tie.Need-returns
+returns-2 c = judged-good c.args.s.now c.args.kind c.args.counts.now c.args.starts.now c.first_bad-bad.result c.first_bad-bad.ensures c.if-bad-ne0.false c.spots_of-spots.result.starts c.spots_of-spots.result.lengths c.currency-paid_in.result c.message_of-message.result c.spots_of-spots.ensures.0 c.spots_of-spots.ensures.1 c.currency-paid_in.ensures c.message_of-message.ensures
 
-pub receive-as-spec : {M : Type 1} → statement M
-receive-as-spec =
+pub receive_as_spec : {M : Type 1} → statement M
+receive_as_spec =
     tie.close
     (tie.spec
     first-bad-requires

@@ -5,63 +5,55 @@ use borrow.Author.Rules.{rules}
 use Rattle.message.proofs.reply_of.Statement.{statement}
 use Rattle.message.proofs.reply_of.Tie as tie
 
-slice-aggregate-matches : tie.Need-slice-aggregate-matches
-slice-aggregate-matches c = search rules
-
 matches-requires : tie.Need-matches-requires
 matches-requires c κs = tt
 
-returns : tie.Need-returns
+returns : tie.Need-returns-then-matches
 unfolding reply_of
-returns c = rw (← c.before.matches.ensures, c.if1.true)
-
-slice-aggregate-matches-2 : tie.Need-slice-aggregate-matches-2
-slice-aggregate-matches-2 c = search rules
+returns c = rw (← c.matches.ensures, c.if-matches.true)
 
 matches-requires-2 : tie.Need-matches-requires-2
 matches-requires-2 c κs = tt
 
-returns-2 : tie.Need-returns-2
+returns-2 : tie.Need-returns-then-not-matches
 unfolding reply_of
 returns-2 c =
-    let first = c.before.before.before in
-    let second = c.before.matches2 in
-    rw (← first.before.matches.ensures, first.if1.false, ← second.ensures, not-true second.result c.if2.true)
+    let first = c in
+    let second = c.matches-2 in
+    rw (← first.matches.ensures, first.if-matches.false, ← second.ensures, not-true second.result c.if-not-matches.true-raw)
 
-returns-3 : tie.Need-returns-3
+returns-3 : tie.Need-returns-then-transaction-eq0
 unfolding reply_of
 returns-3 c =
-    let first = c.before.before.before.before in
-    let second = c.before.before.matches2 in
+    let first = c in
+    let second = c.matches-2 in
     rw (
-      ← first.before.matches.ensures,
-      first.if1.false,
+      ← first.matches.ensures,
+      first.if-matches.false,
       ← second.ensures,
-      not-false second.result c.before.if2.false,
-      eq-eqb _ 0 c.if3.true,
+      not-false second.result c.if-not-matches.false-raw,
+      eq-eqb _ 0 c.if-transaction-eq0.true,
     )
 
-returns-4 : tie.Need-returns-4
+returns-4 : tie.Need-returns
 unfolding reply_of
 returns-4 c =
-    let first = c.before.before.before.before in
-    let second = c.before.before.matches2 in
+    let first = c in
+    let second = c.matches-2 in
     rw (
-      ← first.before.matches.ensures,
-      first.if1.false,
+      ← first.matches.ensures,
+      first.if-matches.false,
       ← second.ensures,
-      not-false second.result c.before.if2.false,
-      ne_eqb _ 0 c.if3.false,
+      not-false second.result c.if-not-matches.false-raw,
+      ne_eqb _ 0 c.if-transaction-eq0.false,
     )
 
-pub reply-of-spec : {M : Type 1} → statement M
-reply-of-spec =
+pub reply_of_spec : {M : Type 1} → statement M
+reply_of_spec =
     tie.close
     (tie.spec
-    slice-aggregate-matches
     matches-requires
     returns
-    slice-aggregate-matches-2
     matches-requires-2
     returns-2
     returns-3

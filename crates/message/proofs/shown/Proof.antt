@@ -4,27 +4,27 @@ use borrow.Author.Rules.{rules}
 use Rattle.message.proofs.shown.Statement.{statement}
 use Rattle.message.proofs.shown.Tie as tie
 
-mul-shown-at : tie.Need-overflow-mul-shown-at
+mul-shown-at : tie.Need-offset_bounds-starts-number
 mul-shown-at c = search rules
 
-element-copy-out-shown-at : tie.Need-element-copy-out-shown-at
+element-copy-out-shown-at : tie.Need-bounds-starts-number
 element-copy-out-shown-at c = search rules
 
-mul-shown-at-2 : tie.Need-overflow-mul-shown-at-2
+mul-shown-at-2 : tie.Need-offset_bounds-lengths-number
 mul-shown-at-2 c = search rules
 
-element-copy-out-shown-at-2 : tie.Need-element-copy-out-shown-at-2
+element-copy-out-shown-at-2 : tie.Need-bounds-lengths-number
 element-copy-out-shown-at-2 c = search rules
 
-shown-at-requires : tie.Need-shown-at-requires
+shown-at-requires : tie.Need-shown_at-requires
 shown-at-requires c κs = search rules
 
 returns : tie.Need-returns
 unfolding shown_in
-returns c = c.shown-at.ensures
+returns c = c.shown_at.ensures
 
-pub shown-spec : {M : Type 1} → statement M
-shown-spec =
+pub shown_spec : {M : Type 1} → statement M
+shown_spec =
     tie.close
     (tie.spec
     mul-shown-at

@@ -7,35 +7,35 @@ use borrow.Author.Rules.{rules}
 use Rattle.message.proofs.fit.is_good.Statement.{statement}
 use Rattle.message.proofs.fit.is_good.Tie as tie
 
-returns : tie.Need-returns
-returns c = good-missing c.before.before.args.s.now c.before.before.args.count c.before.before.args.start c.before.before.args.e.optional c.before.before.args.e.shape c.before.before.args.e.ccy c.if1.true
+returns : tie.Need-returns-then-count-eq0
+returns c = good-missing c.args.s.now c.args.count c.args.start c.args.e.optional c.args.e.shape c.args.e.ccy c.if-count-eq0.true
 
-returns-2 : tie.Need-returns-2
-returns-2 c = good-doubled c.before.before.before.args.s.now c.before.before.before.args.count c.before.before.before.args.start c.before.before.before.args.e.optional c.before.before.before.args.e.shape c.before.before.before.args.e.ccy c.before.if1.false c.if2.true
+returns-2 : tie.Need-returns-then-count-ne1
+returns-2 c = good-doubled c.args.s.now c.args.count c.args.start c.args.e.optional c.args.e.shape c.args.e.ccy c.if-count-eq0.false c.if-count-ne1.true
 
-parts-at-requires : tie.Need-parts-at-requires
+parts-at-requires : tie.Need-parts_at-parts-requires
 parts-at-requires c κs = search rules
 
-returns-3 : tie.Need-returns-3
-returns-3 c = good-textless c.before.before.before.before.before.before.args.s.now c.before.before.before.before.before.before.args.count c.before.before.before.before.before.before.args.start c.before.before.parts_at.result c.before.before.parts_at.ensures c.before.before.before.if2.false c.before.before.before.before.before.before.args.e.optional c.before.before.before.before.before.before.args.e.shape c.before.before.before.before.before.before.args.e.ccy (not-true _ c.if3.true)
+returns-3 : tie.Need-returns-then-not-parts
+returns-3 c = good-textless c.args.s.now c.args.count c.args.start c.parts_at-parts.result c.parts_at-parts.ensures c.if-count-ne1.false c.args.e.optional c.args.e.shape c.args.e.ccy (not-true _ c.if-not-parts.true)
 
-sub-shown-at : tie.Need-overflow-sub-shown-at
-sub-shown-at c = (stands c.before.before.before.before.before.before.before.args.s.now c.before.before.before.before.before.before.before.args.start c.before.before.before.parts_at.result c.before.before.before.parts_at.ensures).forward
+sub-shown-at : tie.Need-overflow_sub-parts
+sub-shown-at c = (stands c.args.s.now c.args.start c.parts_at-parts.result c.parts_at-parts.ensures).forward
 
-shown-at-requires : tie.Need-shown-at-requires
+shown-at-requires : tie.Need-shown_at-text-requires
 shown-at-requires c κs = search rules
 
-ccy-fits-requires : tie.Need-ccy-fits-requires
-ccy-fits-requires c κs = (stands c.before.before.before.before.before.before.before.before.args.s.now c.before.before.before.before.before.before.before.before.args.start c.before.before.before.before.parts_at.result c.before.before.before.before.parts_at.ensures).ccy-within
+ccy-fits-requires : tie.Need-ccy_fits-requires
+ccy-fits-requires c κs = (stands c.args.s.now c.args.start c.parts_at-parts.result c.parts_at-parts.ensures).ccy-within
 
-has-shape-requires : tie.Need-has-shape-requires
+has-shape-requires : tie.Need-has_shape-requires
 has-shape-requires c κs = search rules
 
-returns-4 : tie.Need-returns-4
-returns-4 c = good-there c.before.before.before.before.before.before.before.before.before.before.args.s.now c.before.before.before.before.before.before.before.before.before.before.args.count c.before.before.before.before.before.before.before.before.before.before.args.start c.before.before.before.before.before.before.parts_at.result c.before.before.before.before.before.before.parts_at.ensures c.before.before.before.before.before.before.before.if2.false c.before.before.before.before.before.before.before.before.before.before.args.e.optional c.before.before.before.before.before.before.before.before.before.before.args.e.shape c.before.before.before.before.before.before.before.before.before.before.args.e.ccy c.before.ccy-fits.result c.has-shape.result (not-false _ c.before.before.before.before.if3.false) c.before.ccy-fits.ensures (c.has-shape.ensures ∙ ap (has_shape c.before.before.before.before.before.before.before.before.before.before.args.e.shape) (c.before.before.shown-at.ensures ∙ text-shown c.before.before.before.before.before.before.before.before.before.before.args.s.now c.before.before.before.before.before.before.before.before.before.before.args.count c.before.before.before.before.before.before.before.before.before.before.args.start c.before.before.before.before.before.before.parts_at.result c.before.before.before.before.before.before.parts_at.ensures c.before.before.before.before.before.before.before.if2.false))
+returns-4 : tie.Need-returns
+returns-4 c = good-there c.args.s.now c.args.count c.args.start c.parts_at-parts.result c.parts_at-parts.ensures c.if-count-ne1.false c.args.e.optional c.args.e.shape c.args.e.ccy c.ccy_fits.result c.has_shape.result (not-false _ c.if-not-parts.false) c.ccy_fits.ensures (c.has_shape.ensures ∙ ap (has_shape c.args.e.shape) (c.shown_at-text.ensures ∙ text-shown c.args.s.now c.args.count c.args.start c.parts_at-parts.result c.parts_at-parts.ensures c.if-count-ne1.false))
 
-pub is-good-spec : {M : Type 1} → statement M
-is-good-spec =
+pub is_good_spec : {M : Type 1} → statement M
+is_good_spec =
     tie.close
     (tie.spec
     returns

@@ -8,17 +8,17 @@ use borrow.Author.Rules.{rules}
 use Rattle.message.proofs.kinds.camt_050.Statement.{statement}
 use Rattle.message.proofs.kinds.camt_050.Tie as tie
 
-mul-result : tie.Need-overflow-mul-result
+mul-result : tie.Need-offset_bounds-place
 unfolding camt050_fields
 mul-result c = search rules
 
-array-copy-out-result : tie.Need-array-copy-out-result
+array-copy-out-result : tie.Need-bounds-place-place
 unfolding camt050_fields
 array-copy-out-result c = search rules
 
 returns : tie.Need-returns
 unfolding entry_of camt050_fields node_of child_of name_of names firsts same_name
-returns c = entry-there camt050_fields c.before.args.place c.before.requires
+returns c = entry-there camt050_fields c.args.place c.requires
 
-pub camt-050-spec : {M : Type 1} → statement M
-camt-050-spec = tie.close (tie.spec mul-result array-copy-out-result returns)
+pub camt_050_spec : {M : Type 1} → statement M
+camt_050_spec = tie.close (tie.spec mul-result array-copy-out-result returns)

@@ -6,54 +6,54 @@ use borrow.Author.Rules.{rules}
 use Rattle.message.proofs.kinds.entry_at.Statement.{statement}
 use Rattle.message.proofs.kinds.entry_at.Tie as tie
 
-enum_told : tie.Need-enum-told
+enum_told : tie.Need-enum_told-1
 enum_told c = search rules
 
-pacs-008-requires : tie.Need-pacs-008-requires
+pacs-008-requires : tie.Need-pacs_008-requires
 unfolding fields_of
-pacs-008-requires c κs = rw c.enum_told.given.1 at c.before.before.requires
+pacs-008-requires c κs = rw c.in-Pacs008.is at c.requires
 
-enum-told-2 : tie.Need-enum-told-2
+enum-told-2 : tie.Need-enum_told-in-Camt050
 enum-told-2 c = search rules
 
-camt-050-requires : tie.Need-camt-050-requires
+camt-050-requires : tie.Need-camt_050-requires
 unfolding fields_of
-camt-050-requires c κs = rw c.enum-told2.given.1 at c.before.before.requires
+camt-050-requires c κs = rw c.in-Camt050.is at c.requires
 
-enum-told-3 : tie.Need-enum-told-3
+enum-told-3 : tie.Need-enum_told-in-Pacs028
 enum-told-3 c = search rules
 
-pacs-028-requires : tie.Need-pacs-028-requires
+pacs-028-requires : tie.Need-pacs_028-requires
 unfolding fields_of
-pacs-028-requires c κs = rw c.enum-told3.given.1 at c.before.before.requires
+pacs-028-requires c κs = rw c.in-Pacs028.is at c.requires
 
-enum-told-4 : tie.Need-enum-told-4
+enum-told-4 : tie.Need-enum_told-in-Pacs002
 enum-told-4 c = search rules
 
-pacs-002-requires : tie.Need-pacs-002-requires
+pacs-002-requires : tie.Need-pacs_002-requires
 unfolding fields_of
-pacs-002-requires c κs = rw c.enum-told4.given.1 at c.before.before.requires
+pacs-002-requires c κs = rw c.in-Pacs002.is at c.requires
 
-returns : tie.Need-returns
+returns : tie.Need-returns-in-Pacs008
 unfolding fields_of
-returns c = entry_found c.before.before.before.args.kind Pacs008 c.before.before.before.args.place c.pacs-008.result c.before.enum_told.given.1 c.pacs-008.ensures
+returns c = entry_found c.args.kind Pacs008 c.args.place c.pacs_008.result c.in-Pacs008.is c.pacs_008.ensures
 
-returns-2 : tie.Need-returns-2
+returns-2 : tie.Need-returns-in-Camt050
 unfolding fields_of
-returns-2 c = entry_found c.before.before.before.args.kind Camt050 c.before.before.before.args.place c.camt-050.result c.before.enum-told2.given.1 c.camt-050.ensures
+returns-2 c = entry_found c.args.kind Camt050 c.args.place c.camt_050.result c.in-Camt050.is c.camt_050.ensures
 
-returns-3 : tie.Need-returns-3
+returns-3 : tie.Need-returns-in-Pacs028
 unfolding fields_of
-returns-3 c = entry_found c.before.before.before.args.kind Pacs028 c.before.before.before.args.place c.pacs-028.result c.before.enum-told3.given.1 c.pacs-028.ensures
+returns-3 c = entry_found c.args.kind Pacs028 c.args.place c.pacs_028.result c.in-Pacs028.is c.pacs_028.ensures
 
-returns-4 : tie.Need-returns-4
+returns-4 : tie.Need-returns-in-Pacs002
 unfolding fields_of
 returns-4 c =
-    let start = c.before.before.before.args in
-    entry_found start.kind Pacs002 start.place c.pacs-002.result c.before.enum-told4.given.1 c.pacs-002.ensures
+    let start = c.args in
+    entry_found start.kind Pacs002 start.place c.pacs_002.result c.in-Pacs002.is c.pacs_002.ensures
 
-pub entry-at-spec : {M : Type 1} → statement M
-entry-at-spec =
+pub entry_at_spec : {M : Type 1} → statement M
+entry_at_spec =
     tie.close
     (tie.spec
     enum_told

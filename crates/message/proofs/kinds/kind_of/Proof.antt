@@ -8,60 +8,60 @@ use borrow.Author.Rules.{rules}
 use Rattle.message.proofs.kinds.kind_of.Statement.{statement}
 use Rattle.message.proofs.kinds.kind_of.Tie as tie
 
-returns : tie.Need-returns
+returns : tie.Need-returns-then-bodies-ne1
 unfolding kind_seen body_of node_of child_of name_of names firsts same_name
-returns c = rw (ne_eqb _ _ c.if1.true)
+returns c = rw (ne_eqb _ _ c.if-bodies-ne1.true)
 
-element-copy-out-if2 : tie.Need-element-copy-out-if2
+element-copy-out-if2 : tie.Need-bounds-counts-3
 element-copy-out-if2 c = search rules
 
-returns-2 : tie.Need-returns-2
+returns-2 : tie.Need-returns-then-counts-eq1
 unfolding kind_seen body_of node_of child_of name_of names firsts same_name
-returns-2 c = rw (eq-eqb _ _ c.before.before.if1.false, eq-eqb _ _ c.if2.true)
+returns-2 c = rw (eq-eqb _ _ c.if-bodies-ne1.false, eq-eqb _ _ c.if-counts-eq1.true)
 
-element-copy-out-if3 : tie.Need-element-copy-out-if3
+element-copy-out-if3 : tie.Need-bounds-counts-4
 element-copy-out-if3 c = search rules
 
-returns-3 : tie.Need-returns-3
+returns-3 : tie.Need-returns-then-counts-eq1-2
 unfolding kind_seen body_of node_of child_of name_of names firsts same_name
-returns-3 c = rw (eq-eqb _ _ c.before.before.before.before.if1.false, ne_eqb _ _ c.before.before.if2.false, eq-eqb _ _ c.if3.true)
+returns-3 c = rw (eq-eqb _ _ c.if-bodies-ne1.false, ne_eqb _ _ c.if-counts-eq1.false, eq-eqb _ _ c.if-counts-eq1-2.true)
 
-element-copy-out-if4 : tie.Need-element-copy-out-if4
+element-copy-out-if4 : tie.Need-bounds-counts-5
 element-copy-out-if4 c = search rules
 
-returns-4 : tie.Need-returns-4
+returns-4 : tie.Need-returns-then-counts-eq1-3
 unfolding kind_seen body_of node_of child_of name_of names firsts same_name
-returns-4 c = rw (eq-eqb _ _ c.before.before.before.before.before.before.if1.false, ne_eqb _ _ c.before.before.before.before.if2.false, ne_eqb _ _ c.before.before.if3.false, eq-eqb _ _ c.if4.true)
+returns-4 c = rw (eq-eqb _ _ c.if-bodies-ne1.false, ne_eqb _ _ c.if-counts-eq1.false, ne_eqb _ _ c.if-counts-eq1-2.false, eq-eqb _ _ c.if-counts-eq1-3.true)
 
-element-copy-out-if5 : tie.Need-element-copy-out-if5
+element-copy-out-if5 : tie.Need-bounds-counts-6
 element-copy-out-if5 c = search rules
 
-returns-5 : tie.Need-returns-5
+returns-5 : tie.Need-returns-then-counts-eq1-4
 unfolding kind_seen body_of node_of child_of name_of names firsts same_name
 returns-5 c =
-    let at-if3 = c.before.before.before.before in
+    let at-if3 = c in
     rw (
-      eq-eqb _ _ at-if3.before.before.before.before.if1.false,
-      ne_eqb _ _ at-if3.before.before.if2.false,
-      ne_eqb _ _ at-if3.if3.false,
-      ne_eqb _ _ c.before.before.if4.false,
-      eq-eqb _ _ c.if5.true,
+      eq-eqb _ _ at-if3.if-bodies-ne1.false,
+      ne_eqb _ _ at-if3.if-counts-eq1.false,
+      ne_eqb _ _ at-if3.if-counts-eq1-2.false,
+      ne_eqb _ _ c.if-counts-eq1-3.false,
+      eq-eqb _ _ c.if-counts-eq1-4.true,
     )
 
-returns-6 : tie.Need-returns-6
+returns-6 : tie.Need-returns
 unfolding kind_seen body_of node_of child_of name_of names firsts same_name
 returns-6 c =
-    let at-if3 = c.before.before.before.before in
+    let at-if3 = c in
     rw (
-      eq-eqb _ _ at-if3.before.before.before.before.if1.false,
-      ne_eqb _ _ at-if3.before.before.if2.false,
-      ne_eqb _ _ at-if3.if3.false,
-      ne_eqb _ _ c.before.before.if4.false,
-      ne_eqb _ _ c.if5.false,
+      eq-eqb _ _ at-if3.if-bodies-ne1.false,
+      ne_eqb _ _ at-if3.if-counts-eq1.false,
+      ne_eqb _ _ at-if3.if-counts-eq1-2.false,
+      ne_eqb _ _ c.if-counts-eq1-3.false,
+      ne_eqb _ _ c.if-counts-eq1-4.false,
     )
 
-pub kind-of-spec : {M : Type 1} → statement M
-kind-of-spec =
+pub kind_of_spec : {M : Type 1} → statement M
+kind_of_spec =
     tie.close
     (tie.spec
     returns

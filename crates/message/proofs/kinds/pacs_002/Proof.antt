@@ -8,17 +8,17 @@ use borrow.Author.Rules.{rules}
 use Rattle.message.proofs.kinds.pacs_002.Statement.{statement}
 use Rattle.message.proofs.kinds.pacs_002.Tie as tie
 
-mul-result : tie.Need-overflow-mul-result
+mul-result : tie.Need-offset_bounds-place
 unfolding pacs002_fields
 mul-result c = search rules
 
-array-copy-out-result : tie.Need-array-copy-out-result
+array-copy-out-result : tie.Need-bounds-place-place
 unfolding pacs002_fields
 array-copy-out-result c = search rules
 
 returns : tie.Need-returns
 unfolding entry_of pacs002_fields node_of child_of name_of names firsts same_name
-returns c = entry-there pacs002_fields c.before.args.place c.before.requires
+returns c = entry-there pacs002_fields c.args.place c.requires
 
-pub pacs-002-spec : {M : Type 1} → statement M
-pacs-002-spec = tie.close (tie.spec mul-result array-copy-out-result returns)
+pub pacs_002_spec : {M : Type 1} → statement M
+pacs_002_spec = tie.close (tie.spec mul-result array-copy-out-result returns)

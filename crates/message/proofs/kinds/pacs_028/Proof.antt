@@ -8,17 +8,17 @@ use borrow.Author.Rules.{rules}
 use Rattle.message.proofs.kinds.pacs_028.Statement.{statement}
 use Rattle.message.proofs.kinds.pacs_028.Tie as tie
 
-mul-result : tie.Need-overflow-mul-result
+mul-result : tie.Need-offset_bounds-place
 unfolding pacs028_fields
 mul-result c = search rules
 
-array-copy-out-result : tie.Need-array-copy-out-result
+array-copy-out-result : tie.Need-bounds-place-place
 unfolding pacs028_fields
 array-copy-out-result c = search rules
 
 returns : tie.Need-returns
 unfolding entry_of pacs028_fields node_of child_of name_of names firsts same_name
-returns c = entry-there pacs028_fields c.before.args.place c.before.requires
+returns c = entry-there pacs028_fields c.args.place c.requires
 
-pub pacs-028-spec : {M : Type 1} → statement M
-pacs-028-spec = tie.close (tie.spec mul-result array-copy-out-result returns)
+pub pacs_028_spec : {M : Type 1} → statement M
+pacs_028_spec = tie.close (tie.spec mul-result array-copy-out-result returns)

@@ -7,38 +7,38 @@ use borrow.Author.Rules.{rules}
 use Rattle.message.proofs.parts.ccy_of.Statement.{statement}
 use Rattle.message.proofs.parts.ccy_of.Tie as tie
 
-slice-aggregate-result : tie.Need-slice-aggregate-result
+slice-aggregate-result : tie.Need-slice_bounds-result-end
 slice-aggregate-result c = search rules
 
-returns : tie.Need-returns
-returns c = ccy-elsewhere c.before.before.before.args.s.now c.before.before.before.args.count c.before.before.before.args.start c.before.if1.true
+returns : tie.Need-returns-then-count-ne1
+returns c = ccy-elsewhere c.args.s.now c.args.count c.args.start c.if-count-ne1.true
 
-parts-at-requires : tie.Need-parts-at-requires
+parts-at-requires : tie.Need-parts_at-parts-requires
 parts-at-requires c κs = search rules
 
-slice-aggregate-result-2 : tie.Need-slice-aggregate-result-2
+slice-aggregate-result-2 : tie.Need-slice_bounds-result-end-then-not-parts
 slice-aggregate-result-2 c = search rules
 
-returns-2 : tie.Need-returns-2
-returns-2 c = ccy-textless c.before.before.before.before.before.before.args.s.now c.before.before.before.before.before.before.args.count c.before.before.before.before.before.before.args.start c.before.before.before.parts_at.result c.before.before.before.parts_at.ensures c.before.before.before.before.if1.false (not-true _ c.before.if2.true)
+returns-2 : tie.Need-returns-then-not-parts
+returns-2 c = ccy-textless c.args.s.now c.args.count c.args.start c.parts_at-parts.result c.parts_at-parts.ensures c.if-count-ne1.false (not-true _ c.if-not-parts.true)
 
-slice-aggregate-result-3 : tie.Need-slice-aggregate-result-3
+slice-aggregate-result-3 : tie.Need-slice_bounds-result-end-then-not-parts-2
 slice-aggregate-result-3 c = search rules
 
-returns-3 : tie.Need-returns-3
-returns-3 c = ccy-absent c.before.before.before.before.before.before.before.before.args.s.now c.before.before.before.before.before.before.before.before.args.count c.before.before.before.before.before.before.before.before.args.start c.before.before.before.before.before.parts_at.result c.before.before.before.before.before.parts_at.ensures c.before.before.before.before.before.before.if1.false (not-false _ c.before.before.before.if2.false) (not-true _ c.before.if3.true)
+returns-3 : tie.Need-returns-then-not-parts-2
+returns-3 c = ccy-absent c.args.s.now c.args.count c.args.start c.parts_at-parts.result c.parts_at-parts.ensures c.if-count-ne1.false (not-false _ c.if-not-parts.false) (not-true _ c.if-not-parts-2.true)
 
-add-shown-at : tie.Need-overflow-add-shown-at
-add-shown-at c = omega (arith, (stands c.before.before.before.before.before.before.before.before.args.s.now c.before.before.before.before.before.before.before.before.args.start c.before.before.before.before.before.parts_at.result c.before.before.before.before.before.parts_at.ensures).ccy-within (not-false _ c.before.if3.false), c.before.before.before.before.before.before.before.before.well-formed.0)
+add-shown-at : tie.Need-overflow_add-parts
+add-shown-at c = omega (arith, (stands c.args.s.now c.args.start c.parts_at-parts.result c.parts_at-parts.ensures).ccy-within (not-false _ c.if-not-parts-2.false), c.before.before.before.before.before.before.before.before.well_formed.0)
 
-shown-at-requires : tie.Need-shown-at-requires
+shown-at-requires : tie.Need-shown_at-requires
 shown-at-requires c κs = search rules
 
-returns-4 : tie.Need-returns-4
-returns-4 c = c.shown-at.ensures ∙ ccy-there c.before.before.before.before.before.before.before.before.before.args.s.now c.before.before.before.before.before.before.before.before.before.args.count c.before.before.before.before.before.before.before.before.before.args.start c.before.before.before.before.before.before.parts_at.result c.before.before.before.before.before.before.parts_at.ensures c.before.before.before.before.before.before.before.if1.false (not-false _ c.before.before.before.before.if2.false) (not-false _ c.before.before.if3.false)
+returns-4 : tie.Need-returns
+returns-4 c = c.shown_at.ensures ∙ ccy-there c.args.s.now c.args.count c.args.start c.parts_at-parts.result c.parts_at-parts.ensures c.if-count-ne1.false (not-false _ c.if-not-parts.false) (not-false _ c.if-not-parts-2.false)
 
-pub ccy-of-spec : {M : Type 1} → statement M
-ccy-of-spec =
+pub ccy_of_spec : {M : Type 1} → statement M
+ccy_of_spec =
     tie.close
     (tie.spec
     slice-aggregate-result
