@@ -6,20 +6,20 @@ use Rattle.seat.proofs.Named.{number-low}
 use Rattle.seat.proofs.calls.account_found.Statement.{statement}
 use Rattle.seat.proofs.calls.account_found.Tie as tie
 
-is-account-requires : tie.Need-is-account-requires
+is-account-requires : tie.Need-is_account-requires
 is-account-requires c κs = tt
 
-returns : tie.Need-returns
+returns : tie.Need-returns-then-not-is_account
 unfolding account_found
-returns c = rw (sym c.before.is-account.ensures ∙ not-true _ c.if1.true)
+returns c = rw (sym c.is_account.ensures ∙ not-true _ c.if-not-is_account.true-raw)
 
-account-number-requires : tie.Need-account-number-requires
-account-number-requires c κs = (c.before.before.requires, number-low c.before.before.args.owner c.before.before.args.number (sym c.before.is-account.ensures ∙ not-false _ c.if1.false))
+account-number-requires : tie.Need-account_number-requires
+account-number-requires c κs = (c.requires, number-low c.args.owner c.args.number (sym c.is_account.ensures ∙ not-false _ c.if-not-is_account.false-raw))
 
-returns-2 : tie.Need-returns-2
+returns-2 : tie.Need-returns
 unfolding account_found
-returns-2 c = rw (sym c.before.before.is-account.ensures ∙ not-false _ c.before.if1.false, c.account-number.ensures)
+returns-2 c = rw (sym c.is_account.ensures ∙ not-false _ c.if-not-is_account.false-raw, c.account_number.ensures)
 
-pub account-found-spec : {M : Type 1} → statement M
-account-found-spec =
+pub account_found_spec : {M : Type 1} → statement M
+account_found_spec =
     tie.close (tie.spec is-account-requires returns account-number-requires returns-2)

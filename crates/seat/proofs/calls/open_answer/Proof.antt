@@ -7,24 +7,24 @@ use borrow.Author.Rules.{rules}
 use Rattle.seat.proofs.calls.open_answer.Statement.{statement}
 use Rattle.seat.proofs.calls.open_answer.Tie as tie
 
-head-requires : tie.Need-head-requires
+head-requires : tie.Need-head-h-requires
 head-requires c κs = search rules
 
-returns : tie.Need-returns
-returns c = open-already (records_in c.before.before.before.before.before.args.g) c.before.before.before.before.before.args.sums.now c.before.before.before.before.before.args.s.now c.before.before.head.result c.before.before.head.ensures c.if1.true
+returns : tie.Need-returns-then-h-eq1
+returns c = open-already (records_in c.args.g) c.args.sums.now c.args.s.now c.head-h.result c.head-h.ensures c.if-h-eq1.true
 
-returns-2 : tie.Need-returns-2
-returns-2 c = open-none-left (records_in c.before.before.before.before.before.before.before.args.g) c.before.before.before.before.before.before.before.args.sums.now c.before.before.before.before.before.before.before.args.s.now c.before.before.before.before.head.result c.before.before.before.before.head.ensures c.before.before.if1.false c.if2.true
+returns-2 : tie.Need-returns-then-h-eq-OPENINGS
+returns-2 c = open-none-left (records_in c.args.g) c.args.sums.now c.args.s.now c.head-h.result c.head-h.ensures c.if-h-eq1.false c.if-h-eq-OPENINGS.true
 
-sums-good-requires : tie.Need-sums-good-requires
-sums-good-requires c κs = c.before.before.before.before.before.before.before.requires.1
+sums-good-requires : tie.Need-sums_good-requires
+sums-good-requires c κs = c.requires.1
 
-returns-3 : tie.Need-returns-3
-returns-3 c = open-bad (records_in c.before.before.before.before.before.before.before.before.before.args.g) c.before.before.before.before.before.before.before.before.before.args.sums.now c.before.before.before.before.before.before.before.before.before.args.s.now c.before.before.before.before.before.before.head.result c.before.before.before.before.before.before.head.ensures c.before.before.before.before.if1.false c.before.before.if2.false (sym c.before.sums-good.ensures ∙ not-true _ c.if3.true)
+returns-3 : tie.Need-returns-then-not-sums_good
+returns-3 c = open-bad (records_in c.args.g) c.args.sums.now c.args.s.now c.head-h.result c.head-h.ensures c.if-h-eq1.false c.if-h-eq-OPENINGS.false (sym c.sums_good.ensures ∙ not-true _ c.if-not-sums_good.true-raw)
 
-returns-4 : tie.Need-returns-4
-returns-4 c = open-good (records_in c.before.before.before.before.before.before.before.before.before.args.g) c.before.before.before.before.before.before.before.before.before.args.sums.now c.before.before.before.before.before.before.before.before.before.args.s.now c.before.before.before.before.before.before.head.result c.before.before.before.before.before.before.head.ensures c.before.before.before.before.if1.false c.before.before.if2.false (sym c.before.sums-good.ensures ∙ not-false _ c.if3.false)
+returns-4 : tie.Need-returns
+returns-4 c = open-good (records_in c.args.g) c.args.sums.now c.args.s.now c.head-h.result c.head-h.ensures c.if-h-eq1.false c.if-h-eq-OPENINGS.false (sym c.sums_good.ensures ∙ not-false _ c.if-not-sums_good.false-raw)
 
-pub open-answer-spec : {M : Type 1} → statement M
-open-answer-spec =
+pub open_answer_spec : {M : Type 1} → statement M
+open_answer_spec =
     tie.close (tie.spec head-requires returns returns-2 sums-good-requires returns-3 returns-4)

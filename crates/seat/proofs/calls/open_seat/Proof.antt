@@ -12,86 +12,86 @@ use borrow.Author.Rules.{rules}
 use Rattle.seat.proofs.calls.open_seat.Statement.{statement}
 use Rattle.seat.proofs.calls.open_seat.Tie as tie
 
-open-answer-requires : tie.Need-open-answer-requires
-open-answer-requires c κs = (c.before.before.before.requires.0, c.before.before.before.requires.2)
+open-answer-requires : tie.Need-open_answer-answer-requires
+open-answer-requires c κs = (c.requires.0, c.requires.2)
 
-enum_told : tie.Need-enum-told
+enum_told : tie.Need-enum_told-1
 enum_told c = search rules
 
-head-requires : tie.Need-head-requires
+head-requires : tie.Need-head-h-requires
 head-requires c κs = search rules
 
 clear-requires : tie.Need-clear-requires
 clear-requires c κs = tt
 
-add-open-with : tie.Need-overflow-add-open-with
-add-open-with c = omega (arith, opening-low c.before.before.before.before.before.before.before.before.before.before.before.before.before.before.args.s.now c.before.before.before.before.before.before.before.before.before.before.before.before.before.before.requires.1 c.before.before.before.before.before.before.head.result c.before.before.before.before.before.before.head.ensures)
+add-open-with : tie.Need-overflow_add-h
+add-open-with c = omega (arith, opening-low c.args.s.now c.requires.1 c.head-h.result c.head-h.ensures)
 
-open-with-requires : tie.Need-open-with-requires
-open-with-requires c κs = (seat-zeros c.before.before.before.before.before.before.before.before.before.before.before.before.before.before.args.s.now c.before.before.before.before.clear.new.0 c.before.before.before.before.before.before.before.before.before.before.before.before.before.before.requires.0 c.before.before.before.before.clear.ensures, sums-few c.before.before.before.before.before.before.before.before.before.before.before.before.before.before.args.g (simp length-map at c.before.before.before.before.before.before.before.before.before.before.before.before.before.before.well-formed.1.0.1.1.1.0.1.0.1) c.before.before.before.before.before.before.before.before.before.before.before.before.before.before.requires.2 c.before.before.before.before.before.before.before.before.before.before.before.before.before.before.args.sums.now (done-good (records_in c.before.before.before.before.before.before.before.before.before.before.before.before.before.before.args.g) c.before.before.before.before.before.before.before.before.before.before.before.before.before.before.args.sums.now c.before.before.before.before.before.before.before.before.before.before.before.before.before.before.args.s.now (sym c.before.before.before.before.before.before.before.before.enum_told.given.1 ∙ c.before.before.before.before.before.before.before.before.before.before.open-answer.ensures)))
+open-with-requires : tie.Need-open_with-requires
+open-with-requires c κs = (seat-zeros c.args.s.now c.clear.new.s c.requires.0 c.clear.ensures, sums-few c.args.g (omega arith) c.requires.2 c.args.sums.now (done-good (records_in c.args.g) c.args.sums.now c.args.s.now (sym c.in-Done.is ∙ c.open_answer-answer.ensures)))
 
-enum-told-2 : tie.Need-enum-told-2
+enum-told-2 : tie.Need-enum_told-in-NoTicket
 enum-told-2 c = search rules
 
-enum-told-3 : tie.Need-enum-told-3
+enum-told-3 : tie.Need-enum_told-in-AlreadyOpen
 enum-told-3 c = search rules
 
-enum-told-4 : tie.Need-enum-told-4
+enum-told-4 : tie.Need-enum_told-in-NoOpeningLeft
 enum-told-4 c = search rules
 
-enum-told-5 : tie.Need-enum-told-5
+enum-told-5 : tie.Need-enum_told-in-BadNumber
 enum-told-5 c = search rules
 
-enum-told-6 : tie.Need-enum-told-6
+enum-told-6 : tie.Need-enum_told-in-JournalFull
 enum-told-6 c = search rules
 
-enum-told-7 : tie.Need-enum-told-7
+enum-told-7 : tie.Need-enum_told-in-NothingToTakeBack
 enum-told-7 c = search rules
 
-same_length : tie.Need-same-length
+same_length : tie.Need-shape_of-s-in-Done
 same_length c = search rules
 
-returns : tie.Need-returns
-returns c = open_done (records_in c.before.before.before.before.before.before.before.before.before.before.before.before.before.before.before.before.before.args.g) c.before.before.before.before.before.before.before.before.before.before.before.before.before.before.before.before.before.args.sums.now c.before.before.before.before.before.before.before.before.before.before.before.before.before.before.before.before.before.args.s.now c.before.before.before.before.before.before.before.before.before.before.before.before.before.open-answer.result c.before.before.before.before.before.before.before.before.before.before.before.before.before.open-answer.ensures c.before.before.before.before.before.before.before.before.before.before.before.enum_told.given.1 c.before.before.before.before.before.before.before.before.before.head.result c.before.before.before.before.before.before.before.before.before.head.ensures c.before.before.open-with.new.0 c.before.before.open-with.ensures
+returns : tie.Need-returns-in-Done
+returns c = open_done (records_in c.args.g) c.args.sums.now c.args.s.now c.open_answer-answer.result c.open_answer-answer.ensures c.in-Done.is c.head-h.result c.head-h.ensures c.open_with.new.s c.open_with.ensures
 
-same-length-2 : tie.Need-same-length-2
+same-length-2 : tie.Need-shape_of-s-in-NoTicket
 same-length-2 c = search rules
 
-returns-2 : tie.Need-returns-2
-returns-2 c = open-refused (records_in c.before.before.before.before.before.before.args.g) c.before.before.before.before.before.before.args.sums.now c.before.before.before.before.before.before.args.s.now c.before.before.open-answer.result NoTicket c.before.before.open-answer.ensures c.enum-told2.given.1 refl
+returns-2 : tie.Need-returns-in-NoTicket
+returns-2 c = open-refused (records_in c.args.g) c.args.sums.now c.args.s.now c.open_answer-answer.result NoTicket c.open_answer-answer.ensures c.in-NoTicket.is refl
 
-same-length-3 : tie.Need-same-length-3
+same-length-3 : tie.Need-shape_of-s-in-AlreadyOpen
 same-length-3 c = search rules
 
-returns-3 : tie.Need-returns-3
-returns-3 c = open-refused (records_in c.before.before.before.before.before.before.args.g) c.before.before.before.before.before.before.args.sums.now c.before.before.before.before.before.before.args.s.now c.before.before.open-answer.result AlreadyOpen c.before.before.open-answer.ensures c.enum-told3.given.1 refl
+returns-3 : tie.Need-returns-in-AlreadyOpen
+returns-3 c = open-refused (records_in c.args.g) c.args.sums.now c.args.s.now c.open_answer-answer.result AlreadyOpen c.open_answer-answer.ensures c.in-AlreadyOpen.is refl
 
-same-length-4 : tie.Need-same-length-4
+same-length-4 : tie.Need-shape_of-s-in-NoOpeningLeft
 same-length-4 c = search rules
 
-returns-4 : tie.Need-returns-4
-returns-4 c = open-refused (records_in c.before.before.before.before.before.before.args.g) c.before.before.before.before.before.before.args.sums.now c.before.before.before.before.before.before.args.s.now c.before.before.open-answer.result NoOpeningLeft c.before.before.open-answer.ensures c.enum-told4.given.1 refl
+returns-4 : tie.Need-returns-in-NoOpeningLeft
+returns-4 c = open-refused (records_in c.args.g) c.args.sums.now c.args.s.now c.open_answer-answer.result NoOpeningLeft c.open_answer-answer.ensures c.in-NoOpeningLeft.is refl
 
-same-length-5 : tie.Need-same-length-5
+same-length-5 : tie.Need-shape_of-s-in-BadNumber
 same-length-5 c = search rules
 
-returns-5 : tie.Need-returns-5
-returns-5 c = open-refused (records_in c.before.before.before.before.before.before.args.g) c.before.before.before.before.before.before.args.sums.now c.before.before.before.before.before.before.args.s.now c.before.before.open-answer.result BadNumber c.before.before.open-answer.ensures c.enum-told5.given.1 refl
+returns-5 : tie.Need-returns-in-BadNumber
+returns-5 c = open-refused (records_in c.args.g) c.args.sums.now c.args.s.now c.open_answer-answer.result BadNumber c.open_answer-answer.ensures c.in-BadNumber.is refl
 
-same-length-6 : tie.Need-same-length-6
+same-length-6 : tie.Need-shape_of-s-in-JournalFull
 same-length-6 c = search rules
 
-returns-6 : tie.Need-returns-6
-returns-6 c = open-refused (records_in c.before.before.before.before.before.before.args.g) c.before.before.before.before.before.before.args.sums.now c.before.before.before.before.before.before.args.s.now c.before.before.open-answer.result JournalFull c.before.before.open-answer.ensures c.enum-told6.given.1 refl
+returns-6 : tie.Need-returns-in-JournalFull
+returns-6 c = open-refused (records_in c.args.g) c.args.sums.now c.args.s.now c.open_answer-answer.result JournalFull c.open_answer-answer.ensures c.in-JournalFull.is refl
 
-same-length-7 : tie.Need-same-length-7
+same-length-7 : tie.Need-shape_of-s-in-NothingToTakeBack
 same-length-7 c = search rules
 
-returns-7 : tie.Need-returns-7
-returns-7 c = open-refused (records_in c.before.before.before.before.before.before.args.g) c.before.before.before.before.before.before.args.sums.now c.before.before.before.before.before.before.args.s.now c.before.before.open-answer.result NothingToTakeBack c.before.before.open-answer.ensures c.enum-told7.given.1 refl
+returns-7 : tie.Need-returns-in-NothingToTakeBack
+returns-7 c = open-refused (records_in c.args.g) c.args.sums.now c.args.s.now c.open_answer-answer.result NothingToTakeBack c.open_answer-answer.ensures c.in-NothingToTakeBack.is refl
 
-pub open-seat-spec : {M : Type 1} → statement M
-open-seat-spec =
+pub open_seat_spec : {M : Type 1} → statement M
+open_seat_spec =
     tie.close
     (tie.spec
     open-answer-requires

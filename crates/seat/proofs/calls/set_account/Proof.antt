@@ -12,56 +12,56 @@ use borrow.Author.Rules.{rules}
 use Rattle.seat.proofs.calls.set_account.Statement.{statement}
 use Rattle.seat.proofs.calls.set_account.Tie as tie
 
-no-ticket-requires : tie.Need-no-ticket-requires
+no-ticket-requires : tie.Need-no_ticket-requires
 no-ticket-requires c κs = search rules
 
-same_length : tie.Need-same-length
+same_length : tie.Need-shape_of-s-then-no_ticket
 same_length c = search rules
 
-returns : tie.Need-returns
-returns c = set-refused c.before.before.before.before.args.opening c.before.before.before.before.args.owner c.before.before.before.before.args.number c.before.before.before.before.args.given c.before.before.before.before.args.s.now (sym c.before.no-ticket.ensures ∙ c.if1.true)
+returns : tie.Need-returns-then-no_ticket
+returns c = set-refused c.args.opening c.args.owner c.args.number c.args.given c.args.s.now (sym c.no_ticket.ensures ∙ c.if-no_ticket.true)
 
-is-account-requires : tie.Need-is-account-requires
+is-account-requires : tie.Need-is_account-requires
 is-account-requires c κs = tt
 
-settings-fit-requires : tie.Need-settings-fit-requires
+settings-fit-requires : tie.Need-settings_fit-requires
 settings-fit-requires c κs = tt
 
-same-length-2 : tie.Need-same-length-2
+same-length-2 : tie.Need-shape_of-s-then-not-is_account-settings_fit
 same-length-2 c = search rules
 
-returns-2 : tie.Need-returns-2
-returns-2 c = set-bad c.before.before.before.before.before.before.before.args.opening c.before.before.before.before.before.before.before.args.owner c.before.before.before.before.before.before.before.args.number c.before.before.before.before.before.before.before.args.given c.before.before.before.before.before.before.before.args.s.now (sym c.before.before.before.before.no-ticket.ensures ∙ c.before.before.before.if1.false) (both_false c.before.before.is-account.result c.before.settings-fit.result (account_named c.before.before.before.before.before.before.before.args.owner c.before.before.before.before.before.before.before.args.number) (settings_fit c.before.before.before.before.before.before.before.args.given) c.before.before.is-account.ensures c.before.settings-fit.ensures c.if2.true)
+returns-2 : tie.Need-returns-then-not-is_account-settings_fit
+returns-2 c = set-bad c.args.opening c.args.owner c.args.number c.args.given c.args.s.now (sym c.no_ticket.ensures ∙ c.if-no_ticket.false) (both_false c.is_account.result c.settings_fit.result (account_named c.args.owner c.args.number) (settings_fit c.args.given) c.is_account.ensures c.settings_fit.ensures c.if-not-is_account-settings_fit.true-raw)
 
-head-requires : tie.Need-head-requires
+head-requires : tie.Need-head-h-requires
 head-requires c κs = search rules
 
-same-length-3 : tie.Need-same-length-3
+same-length-3 : tie.Need-shape_of-s-then-h-eq-STEPS
 same-length-3 c = search rules
 
-returns-3 : tie.Need-returns-3
-returns-3 c = set_full c.before.before.before.before.before.before.before.before.before.before.before.args.opening c.before.before.before.before.before.before.before.before.before.before.before.args.owner c.before.before.before.before.before.before.before.before.before.before.before.args.number c.before.before.before.before.before.before.before.before.before.before.before.args.given c.before.before.before.before.before.before.before.before.before.before.before.args.s.now (sym c.before.before.before.before.before.before.before.before.no-ticket.ensures ∙ c.before.before.before.before.before.before.before.if1.false) (both_true c.before.before.before.before.before.before.is-account.result c.before.before.before.before.before.settings-fit.result (account_named c.before.before.before.before.before.before.before.before.before.before.before.args.owner c.before.before.before.before.before.before.before.before.before.before.before.args.number) (settings_fit c.before.before.before.before.before.before.before.before.before.before.before.args.given) c.before.before.before.before.before.before.is-account.ensures c.before.before.before.before.before.settings-fit.ensures c.before.before.before.before.if2.false) c.before.before.head.result c.before.before.head.ensures c.if3.true
+returns-3 : tie.Need-returns-then-h-eq-STEPS
+returns-3 c = set_full c.args.opening c.args.owner c.args.number c.args.given c.args.s.now (sym c.no_ticket.ensures ∙ c.if-no_ticket.false) (both_true c.is_account.result c.settings_fit.result (account_named c.args.owner c.args.number) (settings_fit c.args.given) c.is_account.ensures c.settings_fit.ensures c.if-not-is_account-settings_fit.false-raw) c.head-h.result c.head-h.ensures c.if-h-eq-STEPS.true
 
-account-number-requires : tie.Need-account-number-requires
-account-number-requires c κs = (c.before.before.before.before.before.before.before.before.before.before.before.requires.2, number-low c.before.before.before.before.before.before.before.before.before.before.before.args.owner c.before.before.before.before.before.before.before.before.before.before.before.args.number (and_left (account_named c.before.before.before.before.before.before.before.before.before.before.before.args.owner c.before.before.before.before.before.before.before.before.before.before.before.args.number) (settings_fit c.before.before.before.before.before.before.before.before.before.before.before.args.given) (both_true c.before.before.before.before.before.before.is-account.result c.before.before.before.before.before.settings-fit.result (account_named c.before.before.before.before.before.before.before.before.before.before.before.args.owner c.before.before.before.before.before.before.before.before.before.before.before.args.number) (settings_fit c.before.before.before.before.before.before.before.before.before.before.before.args.given) c.before.before.before.before.before.before.is-account.ensures c.before.before.before.before.before.settings-fit.ensures c.before.before.before.before.if2.false)))
+account-number-requires : tie.Need-account_number-i-requires
+account-number-requires c κs = (c.requires.2, number-low c.args.owner c.args.number (and_left (account_named c.args.owner c.args.number) (settings_fit c.args.given) (both_true c.is_account.result c.settings_fit.result (account_named c.args.owner c.args.number) (settings_fit c.args.given) c.is_account.ensures c.settings_fit.ensures c.if-not-is_account-settings_fit.false-raw)))
 
-account-requires : tie.Need-account-requires
-account-requires c κs = (c.before.before.before.before.before.before.before.before.before.before.before.before.before.requires.0, subst (λ (i : ℕ). i < accounts) (sym c.before.account-number.ensures) (account-low c.before.before.before.before.before.before.before.before.before.before.before.before.before.args.owner c.before.before.before.before.before.before.before.before.before.before.before.before.before.args.number (and_left (account_named c.before.before.before.before.before.before.before.before.before.before.before.before.before.args.owner c.before.before.before.before.before.before.before.before.before.before.before.before.before.args.number) (settings_fit c.before.before.before.before.before.before.before.before.before.before.before.before.before.args.given) (both_true c.before.before.before.before.before.before.before.before.is-account.result c.before.before.before.before.before.before.before.settings-fit.result (account_named c.before.before.before.before.before.before.before.before.before.before.before.before.before.args.owner c.before.before.before.before.before.before.before.before.before.before.before.before.before.args.number) (settings_fit c.before.before.before.before.before.before.before.before.before.before.before.before.before.args.given) c.before.before.before.before.before.before.before.before.is-account.ensures c.before.before.before.before.before.before.before.settings-fit.ensures c.before.before.before.before.before.before.if2.false)) c.before.before.before.before.before.before.before.before.before.before.before.before.before.requires.2))
+account-requires : tie.Need-account-a-requires
+account-requires c κs = (c.requires.0, subst (λ (i : ℕ). i < accounts) (sym c.account_number-i.ensures) (account-low c.args.owner c.args.number (and_left (account_named c.args.owner c.args.number) (settings_fit c.args.given) (both_true c.is_account.result c.settings_fit.result (account_named c.args.owner c.args.number) (settings_fit c.args.given) c.is_account.ensures c.settings_fit.ensures c.if-not-is_account-settings_fit.false-raw)) c.requires.2))
 
-set-step-requires : tie.Need-set-step-requires
+set-step-requires : tie.Need-set_step-requires
 set-step-requires c κs = tt
 
 append-requires : tie.Need-append-requires
-append-requires c κs = set-asks c.before.before.before.before.before.before.before.before.before.before.before.before.before.before.before.before.args.opening c.before.before.before.before.before.before.before.before.before.before.before.before.before.before.before.before.args.s.now c.before.before.before.before.before.before.before.before.before.before.before.before.before.before.before.before.requires.0 c.before.before.before.before.before.before.before.before.before.before.before.before.before.before.before.before.requires.1 (sym c.before.before.before.before.before.before.before.before.before.before.before.before.before.no-ticket.ensures ∙ c.before.before.before.before.before.before.before.before.before.before.before.before.if1.false) c.before.before.before.before.before.before.before.head.result c.before.before.before.before.before.before.before.head.ensures c.before.before.before.before.before.before.before.before.before.before.before.before.before.before.before.before.args.owner c.before.before.before.before.before.before.before.before.before.before.before.before.before.before.before.before.args.number c.before.before.before.before.before.before.before.before.before.before.before.before.before.before.before.before.args.given (both_true c.before.before.before.before.before.before.before.before.before.before.before.is-account.result c.before.before.before.before.before.before.before.before.before.before.settings-fit.result (account_named c.before.before.before.before.before.before.before.before.before.before.before.before.before.before.before.before.args.owner c.before.before.before.before.before.before.before.before.before.before.before.before.before.before.before.before.args.number) (settings_fit c.before.before.before.before.before.before.before.before.before.before.before.before.before.before.before.before.args.given) c.before.before.before.before.before.before.before.before.before.before.before.is-account.ensures c.before.before.before.before.before.before.before.before.before.before.settings-fit.ensures c.before.before.before.before.before.before.before.before.before.if2.false) c.before.before.before.before.before.before.before.before.before.before.before.before.before.before.before.before.requires.2 c.before.before.before.before.before.if3.false c.before.before.before.before.account-number.result c.before.before.before.before.account-number.ensures c.before.before.account.result c.before.before.account.ensures c.set-step.result c.set-step.ensures
+append-requires c κs = set-asks c.args.opening c.args.s.now c.requires.0 c.requires.1 (sym c.no_ticket.ensures ∙ c.if-no_ticket.false) c.head-h.result c.head-h.ensures c.args.owner c.args.number c.args.given (both_true c.is_account.result c.settings_fit.result (account_named c.args.owner c.args.number) (settings_fit c.args.given) c.is_account.ensures c.settings_fit.ensures c.if-not-is_account-settings_fit.false-raw) c.requires.2 c.if-h-eq-STEPS.false c.account_number-i.result c.account_number-i.ensures c.account-a.result c.account-a.ensures c.set_step.result c.set_step.ensures
 
-same-length-4 : tie.Need-same-length-4
+same-length-4 : tie.Need-shape_of-s
 same-length-4 c = search rules
 
-returns-4 : tie.Need-returns-4
-returns-4 c = set-done c.before.before.before.before.before.before.before.before.before.before.before.before.before.before.before.before.before.before.before.args.opening c.before.before.before.before.before.before.before.before.before.before.before.before.before.before.before.before.before.before.before.args.owner c.before.before.before.before.before.before.before.before.before.before.before.before.before.before.before.before.before.before.before.args.number c.before.before.before.before.before.before.before.before.before.before.before.before.before.before.before.before.before.before.before.args.given c.before.before.before.before.before.before.before.before.before.before.before.before.before.before.before.before.before.before.before.args.s.now (sym c.before.before.before.before.before.before.before.before.before.before.before.before.before.before.before.before.no-ticket.ensures ∙ c.before.before.before.before.before.before.before.before.before.before.before.before.before.before.before.if1.false) (both_true c.before.before.before.before.before.before.before.before.before.before.before.before.before.before.is-account.result c.before.before.before.before.before.before.before.before.before.before.before.before.before.settings-fit.result (account_named c.before.before.before.before.before.before.before.before.before.before.before.before.before.before.before.before.before.before.before.args.owner c.before.before.before.before.before.before.before.before.before.before.before.before.before.before.before.before.before.before.before.args.number) (settings_fit c.before.before.before.before.before.before.before.before.before.before.before.before.before.before.before.before.before.before.before.args.given) c.before.before.before.before.before.before.before.before.before.before.before.before.before.before.is-account.ensures c.before.before.before.before.before.before.before.before.before.before.before.before.before.settings-fit.ensures c.before.before.before.before.before.before.before.before.before.before.before.before.if2.false) c.before.before.before.before.before.before.before.before.before.before.head.result c.before.before.before.before.before.before.before.before.before.before.head.ensures c.before.before.before.before.before.before.before.before.if3.false c.before.before.before.before.before.before.before.account-number.result c.before.before.before.before.before.before.before.account-number.ensures c.before.before.before.before.before.account.result c.before.before.before.before.before.account.ensures c.before.before.before.set-step.result c.before.before.before.set-step.ensures c.before.before.append.new.0 c.before.before.append.ensures
+returns-4 : tie.Need-returns
+returns-4 c = set-done c.args.opening c.args.owner c.args.number c.args.given c.args.s.now (sym c.no_ticket.ensures ∙ c.if-no_ticket.false) (both_true c.is_account.result c.settings_fit.result (account_named c.args.owner c.args.number) (settings_fit c.args.given) c.is_account.ensures c.settings_fit.ensures c.if-not-is_account-settings_fit.false-raw) c.head-h.result c.head-h.ensures c.if-h-eq-STEPS.false c.account_number-i.result c.account_number-i.ensures c.account-a.result c.account-a.ensures c.set_step.result c.set_step.ensures c.append.new.s c.append.ensures
 
-pub set-account-spec : {M : Type 1} → statement M
-set-account-spec =
+pub set_account_spec : {M : Type 1} → statement M
+set_account_spec =
     tie.close
     (tie.spec
     no-ticket-requires

@@ -6,35 +6,35 @@ use borrow.Author.Rules.{rules}
 use Rattle.seat.proofs.calls.take_back.Statement.{statement}
 use Rattle.seat.proofs.calls.take_back.Tie as tie
 
-no-ticket-requires : tie.Need-no-ticket-requires
+no-ticket-requires : tie.Need-no_ticket-requires
 no-ticket-requires c κs = search rules
 
-same_length : tie.Need-same-length
+same_length : tie.Need-shape_of-s-then-no_ticket
 same_length c = search rules
 
-returns : tie.Need-returns
-returns c = back-refused c.before.before.before.before.args.opening c.before.before.before.before.args.s.now (sym c.before.no-ticket.ensures ∙ c.if1.true)
+returns : tie.Need-returns-then-no_ticket
+returns c = back-refused c.args.opening c.args.s.now (sym c.no_ticket.ensures ∙ c.if-no_ticket.true)
 
-head-requires : tie.Need-head-requires
+head-requires : tie.Need-head-h-requires
 head-requires c κs = search rules
 
-same-length-2 : tie.Need-same-length-2
+same-length-2 : tie.Need-shape_of-s-then-h-eq0
 same-length-2 c = search rules
 
-returns-2 : tie.Need-returns-2
-returns-2 c = back-nothing c.before.before.before.before.before.before.before.before.args.opening c.before.before.before.before.before.before.before.before.args.s.now (sym c.before.before.before.before.before.no-ticket.ensures ∙ c.before.before.before.before.if1.false) c.before.before.head.result c.before.before.head.ensures c.if2.true
+returns-2 : tie.Need-returns-then-h-eq0
+returns-2 c = back-nothing c.args.opening c.args.s.now (sym c.no_ticket.ensures ∙ c.if-no_ticket.false) c.head-h.result c.head-h.ensures c.if-h-eq0.true
 
-drop-last-requires : tie.Need-drop-last-requires
-drop-last-requires c κs = back-asks c.before.before.before.before.before.before.before.before.before.args.opening c.before.before.before.before.before.before.before.before.before.args.s.now c.before.before.before.before.before.before.before.before.before.requires.0 c.before.before.before.before.before.before.before.before.before.requires.1 (sym c.before.before.before.before.before.before.no-ticket.ensures ∙ c.before.before.before.before.before.if1.false) c.before.before.before.head.result c.before.before.before.head.ensures c.before.if2.false
+drop-last-requires : tie.Need-drop_last-requires
+drop-last-requires c κs = back-asks c.args.opening c.args.s.now c.requires.0 c.requires.1 (sym c.no_ticket.ensures ∙ c.if-no_ticket.false) c.head-h.result c.head-h.ensures c.if-h-eq0.false
 
-same-length-3 : tie.Need-same-length-3
+same-length-3 : tie.Need-shape_of-s
 same-length-3 c = search rules
 
-returns-3 : tie.Need-returns-3
-returns-3 c = back_done c.before.before.before.before.before.before.before.before.before.before.before.before.args.opening c.before.before.before.before.before.before.before.before.before.before.before.before.args.s.now (sym c.before.before.before.before.before.before.before.before.before.no-ticket.ensures ∙ c.before.before.before.before.before.before.before.before.if1.false) c.before.before.before.before.before.before.head.result c.before.before.before.before.before.before.head.ensures c.before.before.before.before.if2.false c.before.before.drop-last.new.0 c.before.before.drop-last.ensures
+returns-3 : tie.Need-returns
+returns-3 c = back_done c.args.opening c.args.s.now (sym c.no_ticket.ensures ∙ c.if-no_ticket.false) c.head-h.result c.head-h.ensures c.if-h-eq0.false c.drop_last.new.s c.drop_last.ensures
 
-pub take-back-spec : {M : Type 1} → statement M
-take-back-spec =
+pub take_back_spec : {M : Type 1} → statement M
+take_back_spec =
     tie.close
     (tie.spec
     no-ticket-requires

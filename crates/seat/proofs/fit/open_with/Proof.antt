@@ -11,82 +11,82 @@ use Rattle.seat.proofs.Opening.{opens-none, opens-turn, opens-all}
 use Rattle.seat.proofs.fit.open_with.Statement.{statement}
 use Rattle.seat.proofs.fit.open_with.Tie as tie
 
-abbrev invariant-loop : tie.invariant-loop
-invariant-loop s₀ opening sums i₀ s i = (i ≤ length sums) × (length sums ≤ accounts) × (length s ≡ seat_long) × (s ≡ open_seat opening (take i sums))
+abbrev invariant-loop-i : tie.invariant-loop-i
+invariant-loop-i s₀ opening sums i₀ s i = (i ≤ length sums) × (length sums ≤ accounts) × (length s ≡ seat_long) × (s ≡ open_seat opening (take i sums))
 
-abbrev decreases-loop : tie.decreases-loop
-decreases-loop s₀ opening sums i₀ s i = length sums - i
+abbrev decreases-loop-i : tie.decreases-loop-i
+decreases-loop-i s₀ opening sums i₀ s i = length sums - i
 
-put-head-requires : tie.Need-put-head-requires invariant-loop decreases-loop
-put-head-requires c κs = ap length c.before.before.before.requires.0
+put-head-requires : tie.Need-put_head-requires invariant-loop-i decreases-loop-i
+put-head-requires c κs = ap length c.requires.0
 
-loop-holds : tie.Need-loop-init invariant-loop decreases-loop
+loop-holds : tie.Need-loop-i-init invariant-loop-i decreases-loop-i
 loop-holds c = (
   omega arith,
-  c.before.before.before.before.before.before.requires.1,
-  c.before.before.put-head.auto.0 ∙ ap length c.before.before.before.before.before.before.requires.0,
-  c.before.before.put-head.ensures
-      ∙ ap (λ (s : List ℕ). with_head s (record { opening = c.before.before.before.before.before.before.args.opening; opened = 1; steps = 0 }))
-      c.before.before.before.before.before.before.requires.0
-      ∙ opens-none c.before.before.before.before.before.before.args.opening,
+  c.requires.1,
+  c.put_head.auto.s ∙ ap length c.requires.0,
+  c.put_head.ensures
+      ∙ ap (λ (s : List ℕ). with_head s (record { opening = c.args.opening; opened = 1; steps = 0 }))
+      c.requires.0
+      ∙ opens-none c.args.opening,
 )
 
-mul-opened : tie.Need-overflow-mul-opened invariant-loop decreases-loop
+mul-opened : tie.Need-offset_bounds-sums-i invariant-loop-i decreases-loop-i
 mul-opened c = search rules
 
-shared-slice-read-opened : tie.Need-shared-slice-read-opened invariant-loop decreases-loop
+shared-slice-read-opened : tie.Need-bounds-sums-i invariant-loop-i decreases-loop-i
 shared-slice-read-opened c = omega arith
 
-opened-requires : tie.Need-opened-requires invariant-loop decreases-loop
+opened-requires : tie.Need-opened-requires invariant-loop-i decreases-loop-i
 opened-requires c κs = tt
 
-put-account-requires : tie.Need-put-account-requires invariant-loop decreases-loop
-put-account-requires c κs = (c.before.before.before.before.loop.invariant.2, omega arith)
+put-account-requires : tie.Need-put_account-requires invariant-loop-i decreases-loop-i
+put-account-requires c κs = (c.loop-i.invariant.2, omega arith)
 
-add-i : tie.Need-overflow-add-i invariant-loop decreases-loop
+add-i : tie.Need-overflow_add-i invariant-loop-i decreases-loop-i
 add-i c = omega arith
 
-loop-less : tie.Need-loop-smaller invariant-loop decreases-loop
+loop-less : tie.Need-loop-i-smaller invariant-loop-i decreases-loop-i
 loop-less c = omega arith
 
-loop-again : tie.Need-loop-preserved invariant-loop decreases-loop
+loop-again : tie.Need-loop-i-preserved invariant-loop-i decreases-loop-i
 loop-again c = (
   omega arith,
-  c.before.before.before.before.before.before.before.loop.invariant.1,
-  c.before.before.put-account.auto.0 ∙ c.before.before.before.before.before.before.before.loop.invariant.2,
+  c.loop-i.invariant.1,
+  c.put_account.auto.s ∙ c.loop-i.invariant.2,
   opens-turn
-      c.before.before.before.before.before.before.before.before.before.before.before.before.before.before.args.opening
-      c.before.before.before.before.before.before.before.loop.i
-      c.before.before.before.before.before.before.before.before.before.before.before.before.before.before.args.sums.now
-      c.before.before.before.before.before.before.before.loop.s
-      c.before.before.put-account.new.0
-      c.before.before.before.opened.result
+      c.args.opening
+      c.loop-i.i
+      c.args.sums.now
+      c.loop-i.s
+      c.put_account.new.s
+      c.opened.result
       (omega arith)
-      c.before.before.before.before.before.before.before.loop.invariant.1
-      c.before.before.before.before.before.before.before.loop.invariant.3
-      c.before.before.before.opened.ensures
-      c.before.before.put-account.ensures,
+      c.loop-i.invariant.1
+      c.loop-i.invariant.3
+      c.opened.ensures
+      c.put_account.ensures,
 )
 
-same_length : tie.Need-same-length invariant-loop decreases-loop
+same_length : tie.Need-shape_of-s invariant-loop-i decreases-loop-i
 same_length c = search rules
 
-returns : tie.Need-returns invariant-loop decreases-loop
+returns : tie.Need-returns invariant-loop-i decreases-loop-i
 returns c =
     opens-all
-    c.before.before.before.before.before.before.before.before.args.opening
-    c.before.loop.i
-    c.before.before.before.before.before.before.before.before.args.sums.now
-    c.before.loop.s
-    c.loop-test.false
-    c.before.loop.invariant.3
+    c.args.opening
+    c.loop-i.i
+    c.args.sums.now
+    c.loop-i.s
+    c.loop-i-test.false
+    c.loop-i.invariant.3
 
-pub open-with-spec : {M : Type 1} → statement M
-open-with-spec =
+pub open_with_spec : {M : Type 1} → statement M
+open_with_spec =
     tie.close
     (tie.spec
-    invariant-loop
-    decreases-loop
+    invariant-loop-i
+    decreases-loop-i
     put-head-requires
     loop-holds
     mul-opened

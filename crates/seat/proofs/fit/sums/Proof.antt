@@ -12,42 +12,42 @@ use Rattle.seat.proofs.Opening.{reads_none, reads-turn, reads_all}
 use Rattle.seat.proofs.fit.sums.Statement.{statement}
 use Rattle.seat.proofs.fit.sums.Tie as tie
 
-abbrev invariant-loop : tie.invariant-loop
-invariant-loop s out₀ i₀ out i = (i ≤ accounts) × (length out ≡ accounts) × (take i out ++ sums_from s i (accounts - i) ≡ sums_of s)
+abbrev invariant-loop-i : tie.invariant-loop-i
+invariant-loop-i s out₀ i₀ out i = (i ≤ accounts) × (length out ≡ accounts) × (take i out ++ sums_from s i (accounts - i) ≡ sums_of s)
 
-abbrev decreases-loop : tie.decreases-loop
-decreases-loop s out₀ i₀ out i = accounts - i
+abbrev decreases-loop-i : tie.decreases-loop-i
+decreases-loop-i s out₀ i₀ out i = accounts - i
 
-loop-holds : tie.Need-loop-init invariant-loop decreases-loop
-loop-holds c = (omega arith, refl, reads_none c.before.args.s.now (replicate accounts 0))
+loop-holds : tie.Need-loop-i-init invariant-loop-i decreases-loop-i
+loop-holds c = (omega arith, refl, reads_none c.args.s.now (replicate accounts 0))
 
-account-requires : tie.Need-account-requires invariant-loop decreases-loop
-account-requires c κs = (c.before.before.before.requires, c.loop-test.true)
+account-requires : tie.Need-account-a-requires invariant-loop-i decreases-loop-i
+account-requires c κs = (c.requires, c.loop-i-test.true)
 
-mul-out : tie.Need-overflow-mul-out invariant-loop decreases-loop
+mul-out : tie.Need-offset_bounds-out-i invariant-loop-i decreases-loop-i
 mul-out c = search rules
 
-array-write-out : tie.Need-array-write-out invariant-loop decreases-loop
+array-write-out : tie.Need-bounds-out-i invariant-loop-i decreases-loop-i
 array-write-out c = omega arith
 
-add-i : tie.Need-overflow-add-i invariant-loop decreases-loop
+add-i : tie.Need-overflow_add-i invariant-loop-i decreases-loop-i
 add-i c = omega arith
 
-loop-less : tie.Need-loop-smaller invariant-loop decreases-loop
+loop-less : tie.Need-loop-i-smaller invariant-loop-i decreases-loop-i
 loop-less c = omega arith
 
-loop-again : tie.Need-loop-preserved invariant-loop decreases-loop
-loop-again c = (omega arith, length-set c.before.before.loop.out c.before.before.loop.i c.account.result.opening ∙ c.before.before.loop.invariant.1, reads-turn c.before.before.before.before.args.s.now c.before.before.loop.out c.before.before.loop.i c.account.result.opening c.before.loop-test.true c.before.before.loop.invariant.1 (ap (λ (a : Account). a.opening) c.account.ensures) c.before.before.loop.invariant.2)
+loop-again : tie.Need-loop-i-preserved invariant-loop-i decreases-loop-i
+loop-again c = (omega arith, length-set c.loop-i.out c.loop-i.i c.account-a.result.opening ∙ c.loop-i.invariant.1, reads-turn c.args.s.now c.loop-i.out c.loop-i.i c.account-a.result.opening c.loop-i-test.true c.loop-i.invariant.1 (ap (λ (a : Account). a.opening) c.account-a.ensures) c.loop-i.invariant.2)
 
-returns : tie.Need-returns invariant-loop decreases-loop
-returns c = reads_all c.before.before.before.args.s.now c.before.loop.out c.before.loop.i c.loop-test.false c.before.loop.invariant.1 c.before.loop.invariant.2
+returns : tie.Need-returns invariant-loop-i decreases-loop-i
+returns c = reads_all c.args.s.now c.loop-i.out c.loop-i.i c.loop-i-test.false c.loop-i.invariant.1 c.loop-i.invariant.2
 
-pub sums-spec : {M : Type 1} → statement M
-sums-spec =
+pub sums_spec : {M : Type 1} → statement M
+sums_spec =
     tie.close
     (tie.spec
-    invariant-loop
-    decreases-loop
+    invariant-loop-i
+    decreases-loop-i
     loop-holds
     account-requires
     mul-out

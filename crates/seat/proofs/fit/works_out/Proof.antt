@@ -9,65 +9,65 @@ use Rattle.seat.proofs.Turns.{Worked, works-first, works-next, works-not, works-
 use Rattle.seat.proofs.fit.works_out.Statement.{statement}
 use Rattle.seat.proofs.fit.works_out.Tie as tie
 
-abbrev invariant-loop : tie.invariant-loop
-invariant-loop s opening count given t₀ k₀ t k = Worked s opening count given t k
+abbrev invariant-loop-k : tie.invariant-loop-k
+invariant-loop-k s opening count given t₀ k₀ t k = Worked s opening count given t k
 
-abbrev decreases-loop : tie.decreases-loop
-decreases-loop s opening count given t₀ k₀ t k = count - k
+abbrev decreases-loop-k : tie.decreases-loop-k
+decreases-loop-k s opening count given t₀ k₀ t k = count - k
 
-slice-aggregate-open-with : tie.Need-slice-aggregate-open-with invariant-loop decreases-loop
+slice-aggregate-open-with : tie.Need-slice_bounds-open_with-end invariant-loop-k decreases-loop-k
 slice-aggregate-open-with c = refl
 
-open-with-requires : tie.Need-open-with-requires invariant-loop decreases-loop
-open-with-requires c κs = (refl, c.before.before.before.requires.2)
+open-with-requires : tie.Need-open_with-requires invariant-loop-k decreases-loop-k
+open-with-requires c κs = (refl, c.requires.2)
 
-loop-holds : tie.Need-loop-init invariant-loop decreases-loop
-loop-holds c = works-first c.before.before.before.before.before.args.s.now c.before.before.before.before.before.args.opening c.before.before.before.before.before.args.count c.before.before.before.before.before.args.given.now c.before.open-with.new.0 c.before.before.before.before.before.requires.1 c.before.before.before.before.before.requires.3 c.before.open-with.ensures
+loop-holds : tie.Need-loop-k-init invariant-loop-k decreases-loop-k
+loop-holds c = works-first c.args.s.now c.args.opening c.args.count c.args.given.now c.open_with.new.s c.requires.1 c.requires.3 c.open_with.ensures
 
-step-requires : tie.Need-step-requires invariant-loop decreases-loop
-step-requires c κs = (c.before.before.before.before.before.before.before.requires.0, omega (arith, c.before.loop.invariant.most))
+step-requires : tie.Need-step-x-requires invariant-loop-k decreases-loop-k
+step-requires c κs = (c.requires.0, omega (arith, c.loop-k.invariant.most))
 
-slice-aggregate-is-possible : tie.Need-slice-aggregate-is-possible invariant-loop decreases-loop
-slice-aggregate-is-possible c = sym c.before.before.before.loop.invariant.grown.long
+slice-aggregate-is-possible : tie.Need-slice_bounds-is_possible-end invariant-loop-k decreases-loop-k
+slice-aggregate-is-possible c = sym c.loop-k.invariant.grown.long
 
-is-possible-requires : tie.Need-is-possible-requires invariant-loop decreases-loop
+is-possible-requires : tie.Need-is_possible-requires invariant-loop-k decreases-loop-k
 is-possible-requires c κs =
-    let turn = c.before.before.before.loop.invariant in
+    let turn = c.loop-k.invariant in
     (turn.grown.long, omega (arith, turn.counted, turn.within, turn.most))
 
-returns : tie.Need-returns invariant-loop decreases-loop
-returns c = works-not c.before.before.before.before.before.before.before.before.before.before.before.args.s.now c.before.before.before.before.before.before.before.before.before.before.before.args.opening c.before.before.before.before.before.before.before.before.before.before.before.args.count c.before.before.before.before.before.before.before.before.before.before.before.args.given.now c.before.before.before.before.before.loop.t c.before.before.before.before.before.loop.k c.before.before.before.step.result c.before.before.before.before.before.loop.invariant c.before.before.before.before.loop-test.true c.before.before.before.step.ensures (sym c.before.is-possible.ensures ∙ not-true _ c.if1.true)
+returns : tie.Need-returns-then-not-is_possible invariant-loop-k decreases-loop-k
+returns c = works-not c.args.s.now c.args.opening c.args.count c.args.given.now c.loop-k.t c.loop-k.k c.step-x.result c.loop-k.invariant c.loop-k-test.true c.step-x.ensures (sym c.is_possible.ensures ∙ not-true _ c.if-not-is_possible.true-raw)
 
-slice-aggregate-append : tie.Need-slice-aggregate-append invariant-loop decreases-loop
-slice-aggregate-append c = sym c.before.before.before.before.before.before.loop.invariant.grown.long
+slice-aggregate-append : tie.Need-slice_bounds-append-end invariant-loop-k decreases-loop-k
+slice-aggregate-append c = sym c.loop-k.invariant.grown.long
 
-append-requires : tie.Need-append-requires invariant-loop decreases-loop
-append-requires c κs = (grown-low c.before.before.before.before.before.before.loop.k c.before.before.before.before.before.before.loop.t (omega (arith, c.before.before.before.before.before.before.loop.invariant.most, c.before.before.before.before.before.before.loop.invariant.within)) c.before.before.before.before.before.before.loop.invariant.grown, possible-fits c.before.before.before.before.step.result c.before.before.before.before.before.before.loop.t (sym c.before.before.is-possible.ensures ∙ not-false _ c.before.if1.false), omega (arith, c.before.before.before.before.before.before.loop.invariant.most, c.before.before.before.before.before.before.loop.invariant.counted))
+append-requires : tie.Need-append-requires invariant-loop-k decreases-loop-k
+append-requires c κs = (grown-low c.loop-k.k c.loop-k.t (omega (arith, c.loop-k.invariant.most, c.loop-k.invariant.within)) c.loop-k.invariant.grown, possible-fits c.step-x.result c.loop-k.t (sym c.is_possible.ensures ∙ not-false _ c.if-not-is_possible.false-raw), omega (arith, c.loop-k.invariant.most, c.loop-k.invariant.counted))
 
-add-k : tie.Need-overflow-add-k invariant-loop decreases-loop
+add-k : tie.Need-overflow_add-k invariant-loop-k decreases-loop-k
 add-k c = omega arith
 
-loop-less : tie.Need-loop-smaller invariant-loop decreases-loop
+loop-less : tie.Need-loop-k-smaller invariant-loop-k decreases-loop-k
 loop-less c = omega arith
 
-loop-again : tie.Need-loop-preserved invariant-loop decreases-loop
-loop-again c = works-next c.before.before.before.before.before.before.before.before.before.before.before.before.before.before.args.s.now c.before.before.before.before.before.before.before.before.before.before.before.before.before.before.args.opening c.before.before.before.before.before.before.before.before.before.before.before.before.before.before.args.count c.before.before.before.before.before.before.before.before.before.before.before.before.before.before.args.given.now c.before.before.before.before.before.before.before.before.loop.t c.before.append.new.0 c.before.before.before.before.before.before.before.before.loop.k c.before.before.before.before.before.before.step.result c.before.before.before.before.before.before.before.before.loop.invariant c.before.before.before.before.before.before.before.loop-test.true c.before.before.before.before.before.before.step.ensures (sym c.before.before.before.before.is-possible.ensures ∙ not-false _ c.before.before.before.if1.false) c.before.append.ensures
+loop-again : tie.Need-loop-k-preserved invariant-loop-k decreases-loop-k
+loop-again c = works-next c.args.s.now c.args.opening c.args.count c.args.given.now c.loop-k.t c.append.new.s c.loop-k.k c.step-x.result c.loop-k.invariant c.loop-k-test.true c.step-x.ensures (sym c.is_possible.ensures ∙ not-false _ c.if-not-is_possible.false-raw) c.append.ensures
 
-slice-aggregate-is-same : tie.Need-slice-aggregate-is-same invariant-loop decreases-loop
-slice-aggregate-is-same c = sym c.before.before.loop.invariant.grown.long
+slice-aggregate-is-same : tie.Need-slice_bounds-is_same-end invariant-loop-k decreases-loop-k
+slice-aggregate-is-same c = sym c.loop-k.invariant.grown.long
 
-is-same-requires : tie.Need-is-same-requires invariant-loop decreases-loop
+is-same-requires : tie.Need-is_same-requires invariant-loop-k decreases-loop-k
 is-same-requires c κs = tt
 
-returns-2 : tie.Need-returns-2 invariant-loop decreases-loop
-returns-2 c = works-last c.before.before.before.before.before.before.before.before.before.args.s.now c.before.before.before.before.before.before.before.before.before.args.opening c.before.before.before.before.before.before.before.before.before.args.count c.before.before.before.before.before.before.before.before.before.args.given.now c.before.before.before.loop.t c.before.before.before.loop.k c.is_same.result c.before.before.before.loop.invariant c.before.before.loop-test.false c.is_same.ensures
+returns-2 : tie.Need-returns invariant-loop-k decreases-loop-k
+returns-2 c = works-last c.args.s.now c.args.opening c.args.count c.args.given.now c.loop-k.t c.loop-k.k c.is_same.result c.loop-k.invariant c.loop-k-test.false c.is_same.ensures
 
-pub works-out-spec : {M : Type 1} → statement M
-works-out-spec =
+pub works_out_spec : {M : Type 1} → statement M
+works_out_spec =
     tie.close
     (tie.spec
-    invariant-loop
-    decreases-loop
+    invariant-loop-k
+    decreases-loop-k
     slice-aggregate-open-with
     open-with-requires
     loop-holds
