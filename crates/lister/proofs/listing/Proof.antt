@@ -12,33 +12,33 @@ use borrow.Author.Rules.{rules}
 use Rattle.lister.proofs.listing.Statement.{statement}
 use Rattle.lister.proofs.listing.Tie as tie
 
-read-requires : tie.Need-read-requires
+read-requires : tie.Need-read-sheet-requires
 read-requires c κs = search rules
 
-put-refusal-requires : tie.Need-put-refusal-requires
+put-refusal-requires : tie.Need-put_refusal-requires
 put-refusal-requires c κs = search rules
 
-same_length : tie.Need-same-length
+same_length : tie.Need-shape_of-out-then-not-sheet
 same_length c = search rules
 
-returns : tie.Need-returns
-returns c = listed-refused c.before.before.before.before.before.before.before.before.before.args.s.now c.before.before.before.before.before.before.read.result c.before.before.before.before.before.before.read.ensures.1 c.before.before.before.before.before.before.before.before.before.args.out.now _ _ (not-true _ c.before.before.before.before.if1.true) c.before.before.put-refusal.ensures
+returns : tie.Need-returns-then-not-sheet
+returns c = listed-refused c.args.s.now c.read-sheet.result c.read-sheet.ensures.1 c.args.out.now _ _ (not-true _ c.if-not-sheet.true) c.put_refusal.ensures
 
-put-lines-requires : tie.Need-put-lines-requires
-put-lines-requires c κs = within c.before.before.before.before.before.before.before.before.before.before.args.s.now c.before.before.before.before.before.before.before.read.result c.before.before.before.before.before.before.before.read.ensures.0 (not-false _ c.before.before.before.before.before.if1.false)
+put-lines-requires : tie.Need-put_lines-listed-requires
+put-lines-requires c κs = within c.args.s.now c.read-sheet.result c.read-sheet.ensures.0 (not-false _ c.if-not-sheet.false)
 
-put-count-requires : tie.Need-put-count-requires
+put-count-requires : tie.Need-put_count-requires
 put-count-requires c κs = search rules
 
-same-length-2 : tie.Need-same-length-2
+same-length-2 : tie.Need-shape_of-out
 same-length-2 c = search rules
 
-returns-2 : tie.Need-returns-2
-returns-2 c = listed-accepted c.before.before.before.before.before.before.before.before.before.before.before.before.before.before.before.before.before.args.s.now c.before.before.before.before.before.before.before.before.before.before.before.before.before.before.read.result c.before.before.before.before.before.before.before.before.before.before.before.before.before.before.read.ensures.1 c.before.before.before.before.before.before.before.before.before.before.before.before.before.before.before.before.before.args.out.now _ _ (not-false _ c.before.before.before.before.before.before.before.before.before.before.before.before.if1.false)
-    (wrote_then c.before.before.before.before.before.before.put-lines.ensures.0 (wrote_as c.before.before.put_count.ensures (ap (λ (x : ℕ). decimal_text x ++ bytes " fields\n") c.before.before.before.before.before.before.put-lines.ensures.1)))
+returns-2 : tie.Need-returns
+returns-2 c = listed-accepted c.args.s.now c.read-sheet.result c.read-sheet.ensures.1 c.args.out.now _ _ (not-false _ c.if-not-sheet.false)
+    (wrote_then c.put_lines-listed.ensures.0 (wrote_as c.put_count.ensures (ap (λ (x : ℕ). decimal_text x ++ bytes " fields\n") c.put_lines-listed.ensures.1)))
 
-pub listing-spec : {M : Type 1} → statement M
-listing-spec =
+pub listing_spec : {M : Type 1} → statement M
+listing_spec =
     tie.close
     (tie.spec
     read-requires

@@ -4,35 +4,27 @@ use borrow.Author.Rules.{rules}
 use Rattle.lister.proofs.put_refusal.Statement.{statement}
 use Rattle.lister.proofs.put_refusal.Tie as tie
 
-slice-aggregate-put-all : tie.Need-slice-aggregate-put-all
-slice-aggregate-put-all c = search rules
-
-put-all-requires : tie.Need-put-all-requires
+put-all-requires : tie.Need-put_all-said-requires
 put-all-requires c κs = search rules
 
-put-decimal-requires : tie.Need-put-decimal-requires
+put-decimal-requires : tie.Need-put_decimal-placed-requires
 put-decimal-requires c κs = search rules
 
-slice-aggregate-put-all-2 : tie.Need-slice-aggregate-put-all-2
-slice-aggregate-put-all-2 c = search rules
-
-put-all-requires-2 : tie.Need-put-all-requires-2
+put-all-requires-2 : tie.Need-put_all-requires
 put-all-requires-2 c κs = search rules
 
-same_length : tie.Need-same-length
+same_length : tie.Need-shape_of-out
 same_length c = search rules
 
 returns : tie.Need-returns
-returns c = wrote_then c.before.before.before.before.before.before.before.before.before.before.before.put_all_lem.ensures (wrote_then c.before.before.before.before.before.before.before.put-decimal.ensures c.before.before.put-all2.ensures)
+returns c = wrote_then c.put_all-said.ensures (wrote_then c.put_decimal-placed.ensures c.put_all.ensures)
 
-pub put-refusal-spec : {M : Type 1} → statement M
-put-refusal-spec =
+pub put_refusal_spec : {M : Type 1} → statement M
+put_refusal_spec =
     tie.close
     (tie.spec
-    slice-aggregate-put-all
     put-all-requires
     put-decimal-requires
-    slice-aggregate-put-all-2
     put-all-requires-2
     same_length
     returns)

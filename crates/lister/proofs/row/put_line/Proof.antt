@@ -9,36 +9,36 @@ use borrow.Author.Rules.{rules}
 use Rattle.lister.proofs.row.put_line.Statement.{statement}
 use Rattle.lister.proofs.row.put_line.Tie as tie
 
-parts-at-requires : tie.Need-parts-at-requires
+parts-at-requires : tie.Need-parts_at-parts-requires
 parts-at-requires c κs = search rules
 
-returns : tie.Need-returns
-returns c = wrote_as (wrote_nothing _ _) (rw (text-missing c.before.before.before.before.before.args.s.now c.before.before.before.before.before.args.start c.before.before.parts_at.result c.before.before.parts_at.ensures (not-true _ c.if1.true)))
+returns : tie.Need-returns-then-not-parts
+returns c = wrote_as (wrote_nothing _ _) (rw (text-missing c.args.s.now c.args.start c.parts_at-parts.result c.parts_at-parts.ensures (not-true _ c.if-not-parts.true)))
 
-put-path-requires : tie.Need-put-path-requires
+put-path-requires : tie.Need-put_path-named-requires
 put-path-requires c κs = search rules
 
-put-ccy-requires : tie.Need-put-ccy-requires
-put-ccy-requires c κs = let h = (text-there c.before.before.before.before.before.before.before.before.before.before.args.s.now c.before.before.before.before.before.before.before.before.before.before.args.start c.before.before.before.before.before.before.before.parts_at.result c.before.before.before.before.before.before.before.parts_at.ensures (not-false _ c.before.before.before.before.before.if1.false)).inside-sheet in omega arith
+put-ccy-requires : tie.Need-put_ccy-with_ccy-requires
+put-ccy-requires c κs = let h = (text-there c.args.s.now c.args.start c.parts_at-parts.result c.parts_at-parts.ensures (not-false _ c.if-not-parts.false)).inside-sheet in omega arith
 
-put-requires : tie.Need-put-requires
+put-requires : tie.Need-put-blank-requires
 put-requires c κs = search rules
 
-put-part-requires : tie.Need-put-part-requires
+put-part-requires : tie.Need-put_part-written-requires
 put-part-requires c κs = search rules
 
-put-requires-2 : tie.Need-put-requires-2
+put-requires-2 : tie.Need-put-requires
 put-requires-2 c κs = search rules
 
-same_length : tie.Need-same-length
+same_length : tie.Need-shape_of-out
 same_length c = search rules
 
-returns-2 : tie.Need-returns-2
-returns-2 c = wrote_as (wrote_then c.before.before.before.before.before.before.before.before.before.before.before.before.before.before.before.before.before.before.put-path.ensures (wrote_then c.before.before.before.before.before.before.before.before.before.before.before.before.before.before.put-ccy.ensures (wrote_then c.before.before.before.before.before.before.before.before.before.before.put.ensures (wrote_then c.before.before.before.before.before.before.put-part.ensures c.before.before.put2.ensures))))
-    (line-there c.before.before.before.before.before.before.before.before.before.before.before.before.before.before.before.before.before.before.before.before.before.before.before.before.before.args.s.now c.before.before.before.before.before.before.before.before.before.before.before.before.before.before.before.before.before.before.before.before.before.before.before.before.before.args.start c.before.before.before.before.before.before.before.before.before.before.before.before.before.before.before.before.before.before.before.before.before.before.parts_at.result (names_of c.before.before.before.before.before.before.before.before.before.before.before.before.before.before.before.before.before.before.before.before.before.before.before.before.before.args.s.now c.before.before.before.before.before.before.before.before.before.before.before.before.before.before.before.before.before.before.before.before.before.before.before.before.before.args.stack.now c.before.before.before.before.before.before.before.before.before.before.before.before.before.before.before.before.before.before.before.before.before.before.before.before.before.args.level) (text-there c.before.before.before.before.before.before.before.before.before.before.before.before.before.before.before.before.before.before.before.before.before.before.before.before.before.args.s.now c.before.before.before.before.before.before.before.before.before.before.before.before.before.before.before.before.before.before.before.before.before.before.before.before.before.args.start c.before.before.before.before.before.before.before.before.before.before.before.before.before.before.before.before.before.before.before.before.before.before.parts_at.result c.before.before.before.before.before.before.before.before.before.before.before.before.before.before.before.before.before.before.before.before.before.before.parts_at.ensures (not-false _ c.before.before.before.before.before.before.before.before.before.before.before.before.before.before.before.before.before.before.before.before.if1.false)))
+returns-2 : tie.Need-returns
+returns-2 c = wrote_as (wrote_then c.put_path-named.ensures (wrote_then c.put_ccy-with_ccy.ensures (wrote_then c.put-blank.ensures (wrote_then c.put_part-written.ensures c.put.ensures))))
+    (line-there c.args.s.now c.args.start c.parts_at-parts.result (names_of c.args.s.now c.args.stack.now c.args.level) (text-there c.args.s.now c.args.start c.parts_at-parts.result c.parts_at-parts.ensures (not-false _ c.if-not-parts.false)))
 
-pub put-line-spec : {M : Type 1} → statement M
-put-line-spec =
+pub put_line_spec : {M : Type 1} → statement M
+put_line_spec =
     tie.close
     (tie.spec
     parts-at-requires

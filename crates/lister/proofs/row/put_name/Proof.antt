@@ -12,57 +12,57 @@ use Rattle.lister.proofs.Parts.{no_name, name-begins, while-goes, while-stops, w
 use Rattle.lister.proofs.row.put_name.Statement.{statement}
 use Rattle.lister.proofs.row.put_name.Tie as tie
 
-abbrev invariant-loop : tie.invariant-loop
-invariant-loop out₀ n s start at₀ i₀ out at i = (length out ≡ length out₀) × Still out₀ n (name_at s start) out at (while is_name_byte (drop i s))
+abbrev invariant-loop-i : tie.invariant-loop-i
+invariant-loop-i out₀ n s start at₀ i₀ out at i = (length out ≡ length out₀) × Still out₀ n (name_at s start) out at (while is_name_byte (drop i s))
 
-abbrev decreases-loop : tie.decreases-loop
-decreases-loop out₀ n s start at₀ i₀ out at i = length s - i
+abbrev decreases-loop-i : tie.decreases-loop-i
+decreases-loop-i out₀ n s start at₀ i₀ out at i = length s - i
 
-returns : tie.Need-returns invariant-loop decreases-loop
-returns c = wrote_as (wrote_nothing _ _) (sym (no_name c.before.before.before.args.s.now c.before.before.before.args.start c.if1.true))
+returns : tie.Need-returns-then-s-start invariant-loop-i decreases-loop-i
+returns c = wrote_as (wrote_nothing _ _) (sym (no_name c.args.s.now c.args.start c.if-s-start.true))
 
-add-i : tie.Need-overflow-add-i invariant-loop decreases-loop
+add-i : tie.Need-overflow_add-i invariant-loop-i decreases-loop-i
 add-i c = omega arith
 
-loop-holds : tie.Need-loop-init invariant-loop decreases-loop
-loop-holds c = (refl, name-begins c.before.before.before.args.out.now c.before.before.before.args.n c.before.before.before.args.s.now c.before.before.before.args.start)
+loop-holds : tie.Need-loop-i-init invariant-loop-i decreases-loop-i
+loop-holds c = (refl, name-begins c.args.out.now c.args.n c.args.s.now c.args.start)
 
-shared-slice-read-b : tie.Need-shared-slice-read-b invariant-loop decreases-loop
+shared-slice-read-b : tie.Need-bounds-s-i invariant-loop-i decreases-loop-i
 shared-slice-read-b c = omega arith
 
-is-name-byte-requires : tie.Need-is-name-byte-requires invariant-loop decreases-loop
+is-name-byte-requires : tie.Need-is_name_byte-requires invariant-loop-i decreases-loop-i
 is-name-byte-requires c κs = tt
 
-same_length : tie.Need-same-length invariant-loop decreases-loop
-same_length c = c.before.before.before.before.loop.invariant.0
+same_length : tie.Need-shape_of-out-then-not-is_name_byte invariant-loop-i decreases-loop-i
+same_length c = c.loop-i.invariant.0
 
-returns-2 : tie.Need-returns-2 invariant-loop decreases-loop
-returns-2 c = still-nothing c.before.before.before.before.loop.invariant.1 (while-stops is_name_byte c.before.before.before.before.before.before.before.before.args.s.now c.before.before.before.before.loop.i c.before.before.before.loop-test.true (sym c.before.is-name-byte.ensures ∙ not-true _ c.if2.true))
+returns-2 : tie.Need-returns-then-not-is_name_byte invariant-loop-i decreases-loop-i
+returns-2 c = still-nothing c.loop-i.invariant.1 (while-stops is_name_byte c.args.s.now c.loop-i.i c.loop-i-test.true (sym c.is_name_byte.ensures ∙ not-true _ c.if-not-is_name_byte.true-raw))
 
-put-requires : tie.Need-put-requires invariant-loop decreases-loop
+put-requires : tie.Need-put-at-requires invariant-loop-i decreases-loop-i
 put-requires c κs = tt
 
-add-i-2 : tie.Need-overflow-add-i-2 invariant-loop decreases-loop
+add-i-2 : tie.Need-overflow_add-i-in-loop-i invariant-loop-i decreases-loop-i
 add-i-2 c = omega arith
 
-loop-less : tie.Need-loop-smaller invariant-loop decreases-loop
+loop-less : tie.Need-loop-i-smaller invariant-loop-i decreases-loop-i
 loop-less c = omega arith
 
-loop-again : tie.Need-loop-preserved invariant-loop decreases-loop
-loop-again c = (c.before.before.put.auto.0 ∙ c.before.before.before.before.before.before.before.before.loop.invariant.0, still-less c.before.before.before.before.before.before.before.before.loop.invariant.1 (while-goes is_name_byte c.before.before.before.before.before.before.before.before.before.before.before.before.args.s.now c.before.before.before.before.before.before.before.before.loop.i c.before.before.before.before.before.before.before.loop-test.true (sym c.before.before.before.before.before.is-name-byte.ensures ∙ not-false _ c.before.before.before.before.if2.false)) c.before.before.put.ensures)
+loop-again : tie.Need-loop-i-preserved invariant-loop-i decreases-loop-i
+loop-again c = (c.put-at.auto.out ∙ c.loop-i.invariant.0, still-less c.loop-i.invariant.1 (while-goes is_name_byte c.args.s.now c.loop-i.i c.loop-i-test.true (sym c.is_name_byte.ensures ∙ not-false _ c.if-not-is_name_byte.false-raw)) c.put-at.ensures)
 
-same-length-2 : tie.Need-same-length-2 invariant-loop decreases-loop
-same-length-2 c = c.before.loop.invariant.0
+same-length-2 : tie.Need-shape_of-out invariant-loop-i decreases-loop-i
+same-length-2 c = c.loop-i.invariant.0
 
-returns-3 : tie.Need-returns-3 invariant-loop decreases-loop
-returns-3 c = still-nothing c.before.loop.invariant.1 (while-ends is_name_byte c.before.before.before.before.before.args.s.now c.before.loop.i c.loop-test.false)
+returns-3 : tie.Need-returns invariant-loop-i decreases-loop-i
+returns-3 c = still-nothing c.loop-i.invariant.1 (while-ends is_name_byte c.args.s.now c.loop-i.i c.loop-i-test.false)
 
-pub put-name-spec : {M : Type 1} → statement M
-put-name-spec =
+pub put_name_spec : {M : Type 1} → statement M
+put_name_spec =
     tie.close
     (tie.spec
-    invariant-loop
-    decreases-loop
+    invariant-loop-i
+    decreases-loop-i
     returns
     add-i
     loop-holds

@@ -8,48 +8,48 @@ use Rattle.lister.proofs.Parts.{part-goes, part-ends, part-empty}
 use Rattle.lister.proofs.writer.put_part.Statement.{statement}
 use Rattle.lister.proofs.writer.put_part.Tie as tie
 
-abbrev invariant-loop : tie.invariant-loop
-invariant-loop out₀ n s from to at₀ i₀ out at i = (length out ≡ length out₀) × Still out₀ n (take (to - from) (drop from s)) out at (take (to - i) (drop i s))
+abbrev invariant-loop-i : tie.invariant-loop-i
+invariant-loop-i out₀ n s from to at₀ i₀ out at i = (length out ≡ length out₀) × Still out₀ n (take (to - from) (drop from s)) out at (take (to - i) (drop i s))
 
-abbrev decreases-loop : tie.decreases-loop
-decreases-loop out₀ n s from to at₀ i₀ out at i = to - i
+abbrev decreases-loop-i : tie.decreases-loop-i
+decreases-loop-i out₀ n s from to at₀ i₀ out at i = to - i
 
-loop-holds : tie.Need-loop-init invariant-loop decreases-loop
+loop-holds : tie.Need-loop-i-init invariant-loop-i decreases-loop-i
 loop-holds c = (refl, still-all _ _ _)
 
-same_length : tie.Need-same-length invariant-loop decreases-loop
-same_length c = c.before.before.loop.invariant.0
+same_length : tie.Need-shape_of-out-then-s-i invariant-loop-i decreases-loop-i
+same_length c = c.loop-i.invariant.0
 
-returns : tie.Need-returns invariant-loop decreases-loop
-returns c = still-nothing c.before.before.loop.invariant.1 (part-ends c.before.before.before.before.before.args.s.now c.before.before.loop.i c.before.before.before.before.before.args.to c.if1.true)
+returns : tie.Need-returns-then-s-i invariant-loop-i decreases-loop-i
+returns c = still-nothing c.loop-i.invariant.1 (part-ends c.args.s.now c.loop-i.i c.args.to c.if-s-i.true)
 
-shared-slice-read-put : tie.Need-shared-slice-read-put invariant-loop decreases-loop
+shared-slice-read-put : tie.Need-bounds-s-i invariant-loop-i decreases-loop-i
 shared-slice-read-put c = omega arith
 
-put-requires : tie.Need-put-requires invariant-loop decreases-loop
+put-requires : tie.Need-put-at-requires invariant-loop-i decreases-loop-i
 put-requires c κs = tt
 
-add-i : tie.Need-overflow-add-i invariant-loop decreases-loop
+add-i : tie.Need-overflow_add-i invariant-loop-i decreases-loop-i
 add-i c = omega arith
 
-loop-less : tie.Need-loop-smaller invariant-loop decreases-loop
+loop-less : tie.Need-loop-i-smaller invariant-loop-i decreases-loop-i
 loop-less c = omega arith
 
-loop-again : tie.Need-loop-preserved invariant-loop decreases-loop
-loop-again c = (c.before.before.put.auto.0 ∙ c.before.before.before.before.before.before.before.loop.invariant.0, still-less c.before.before.before.before.before.before.before.loop.invariant.1 (part-goes c.before.before.before.before.before.before.before.before.before.before.args.s.now c.before.before.before.before.before.before.before.loop.i c.before.before.before.before.before.before.before.before.before.before.args.to c.before.before.before.before.before.before.loop-test.true c.before.before.before.before.before.if1.false) c.before.before.put.ensures)
+loop-again : tie.Need-loop-i-preserved invariant-loop-i decreases-loop-i
+loop-again c = (c.put-at.auto.out ∙ c.loop-i.invariant.0, still-less c.loop-i.invariant.1 (part-goes c.args.s.now c.loop-i.i c.args.to c.loop-i-test.true c.if-s-i.false) c.put-at.ensures)
 
-same-length-2 : tie.Need-same-length-2 invariant-loop decreases-loop
-same-length-2 c = c.before.loop.invariant.0
+same-length-2 : tie.Need-shape_of-out invariant-loop-i decreases-loop-i
+same-length-2 c = c.loop-i.invariant.0
 
-returns-2 : tie.Need-returns-2 invariant-loop decreases-loop
-returns-2 c = still-nothing c.before.loop.invariant.1 (part-empty c.before.before.before.before.args.s.now c.before.loop.i c.before.before.before.before.args.to c.loop-test.false)
+returns-2 : tie.Need-returns invariant-loop-i decreases-loop-i
+returns-2 c = still-nothing c.loop-i.invariant.1 (part-empty c.args.s.now c.loop-i.i c.args.to c.loop-i-test.false)
 
-pub put-part-spec : {M : Type 1} → statement M
-put-part-spec =
+pub put_part_spec : {M : Type 1} → statement M
+put_part_spec =
     tie.close
     (tie.spec
-    invariant-loop
-    decreases-loop
+    invariant-loop-i
+    decreases-loop-i
     loop-holds
     same_length
     returns
