@@ -11,7 +11,7 @@ agree-requires-2 c κs = tt
 
 returns : tie.Need-returns
 unfolding amount_foreign
-returns c = rw (c.agree2.ensures, c.before.agree.ensures)
+returns c = rw (c.agree-2.ensures, c.agree.ensures)
 
-pub amount-foreign-spec : {M : Type 1} → statement M
-amount-foreign-spec = tie.close (tie.spec agree-requires agree-requires-2 returns)
+pub amount_foreign_spec : {M : Type 1} → statement M
+amount_foreign_spec = tie.close (tie.spec agree-requires agree-requires-2 returns)

@@ -8,5 +8,5 @@ returns : tie.Need-returns
 unfolding creditor_anothers
 returns c = refl
 
-pub creditor-anothers-spec : {M : Type 1} → statement M
-creditor-anothers-spec = tie.close (tie.spec returns)
+pub creditor_anothers_spec : {M : Type 1} → statement M
+creditor_anothers_spec = tie.close (tie.spec returns)

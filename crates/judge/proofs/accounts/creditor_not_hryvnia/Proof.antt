@@ -9,5 +9,5 @@ returns : tie.Need-returns
 unfolding creditor_not_hryvnia three_bytes
 returns c = refl
 
-pub creditor-not-hryvnia-spec : {M : Type 1} → statement M
-creditor-not-hryvnia-spec = tie.close (tie.spec returns)
+pub creditor_not_hryvnia_spec : {M : Type 1} → statement M
+creditor_not_hryvnia_spec = tie.close (tie.spec returns)

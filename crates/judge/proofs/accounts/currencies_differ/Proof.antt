@@ -8,5 +8,5 @@ returns : tie.Need-returns
 unfolding currencies_differ
 returns c = refl
 
-pub currencies-differ-spec : {M : Type 1} → statement M
-currencies-differ-spec = tie.close (tie.spec returns)
+pub currencies_differ_spec : {M : Type 1} → statement M
+currencies_differ_spec = tie.close (tie.spec returns)

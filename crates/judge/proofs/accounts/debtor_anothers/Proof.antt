@@ -8,5 +8,5 @@ returns : tie.Need-returns
 unfolding debtor_anothers
 returns c = refl
 
-pub debtor-anothers-spec : {M : Type 1} → statement M
-debtor-anothers-spec = tie.close (tie.spec returns)
+pub debtor_anothers_spec : {M : Type 1} → statement M
+debtor_anothers_spec = tie.close (tie.spec returns)

@@ -9,5 +9,5 @@ returns : tie.Need-returns
 unfolding debtor_not_hryvnia three_bytes
 returns c = refl
 
-pub debtor-not-hryvnia-spec : {M : Type 1} → statement M
-debtor-not-hryvnia-spec = tie.close (tie.spec returns)
+pub debtor_not_hryvnia_spec : {M : Type 1} → statement M
+debtor_not_hryvnia_spec = tie.close (tie.spec returns)

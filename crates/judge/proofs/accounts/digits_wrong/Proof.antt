@@ -8,5 +8,5 @@ returns : tie.Need-returns
 unfolding digits_wrong
 returns c = refl
 
-pub digits-wrong-spec : {M : Type 1} → statement M
-digits-wrong-spec = tie.close (tie.spec returns)
+pub digits_wrong_spec : {M : Type 1} → statement M
+digits_wrong_spec = tie.close (tie.spec returns)

@@ -9,19 +9,19 @@ use Rattle.judge.proofs.Places.{records-few}
 use Rattle.judge.proofs.case.case_of.Statement.{statement}
 use Rattle.judge.proofs.case.case_of.Tie as tie
 
-asked-by-requires : tie.Need-asked-by-requires
+asked-by-requires : tie.Need-asked_by-requires
 asked-by-requires c κs = tt
 
-look-among-requires : tie.Need-look-among-requires
+look-among-requires : tie.Need-look_among-looked-requires
 look-among-requires c κs = tt
 
-case-from-requires : tie.Need-case-from-requires
-case-from-requires c κs = looked-fit (records_in c.before.before.args.g) c.before.before.args.sender c.before.before.args.m c.look-among.result (looked-with (records_in c.before.before.args.g) c.before.before.args.sender c.before.before.args.m c.before.asked_by.result c.look-among.result c.before.asked_by.ensures c.look-among.ensures) (records-few c.before.before.args.g c.before.before.requires)
+case-from-requires : tie.Need-case_from-requires
+case-from-requires c κs = looked-fit (records_in c.args.g) c.args.sender c.args.m c.look_among-looked.result (looked-with (records_in c.args.g) c.args.sender c.args.m c.asked_by.result c.look_among-looked.result c.asked_by.ensures c.look_among-looked.ensures) (records-few c.args.g c.requires)
 
 returns : tie.Need-returns
 unfolding case_of
-returns c = c.case-from.ensures ∙ ap (λ (l : Looked). case_from l c.before.before.before.args.sender c.before.before.before.args.today c.before.before.before.args.m) (looked-with (records_in c.before.before.before.args.g) c.before.before.before.args.sender c.before.before.before.args.m c.before.before.asked_by.result c.before.look-among.result c.before.before.asked_by.ensures c.before.look-among.ensures)
+returns c = c.case_from.ensures ∙ ap (λ (l : Looked). case_from l c.args.sender c.args.today c.args.m) (looked-with (records_in c.args.g) c.args.sender c.args.m c.asked_by.result c.look_among-looked.result c.asked_by.ensures c.look_among-looked.ensures)
 
-pub case-of-spec : {M : Type 1} → statement M
-case-of-spec =
+pub case_of_spec : {M : Type 1} → statement M
+case_of_spec =
     tie.close (tie.spec asked-by-requires look-among-requires case-from-requires returns)

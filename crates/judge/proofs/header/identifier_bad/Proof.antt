@@ -10,5 +10,5 @@ returns : tie.Need-returns
 unfolding identifier_bad
 returns c = rw c.agree.ensures
 
-pub identifier-bad-spec : {M : Type 1} → statement M
-identifier-bad-spec = tie.close (tie.spec agree-requires returns)
+pub identifier_bad_spec : {M : Type 1} → statement M
+identifier_bad_spec = tie.close (tie.spec agree-requires returns)

@@ -10,5 +10,5 @@ returns : tie.Need-returns
 unfolding not_from_sender
 returns c = rw c.agree.ensures
 
-pub not-from-sender-spec : {M : Type 1} → statement M
-not-from-sender-spec = tie.close (tie.spec agree-requires returns)
+pub not_from_sender_spec : {M : Type 1} → statement M
+not_from_sender_spec = tie.close (tie.spec agree-requires returns)

@@ -10,5 +10,5 @@ returns : tie.Need-returns
 unfolding original_bad
 returns c = rw c.agree.ensures
 
-pub original-bad-spec : {M : Type 1} → statement M
-original-bad-spec = tie.close (tie.spec agree-requires returns)
+pub original_bad_spec : {M : Type 1} → statement M
+original_bad_spec = tie.close (tie.spec agree-requires returns)

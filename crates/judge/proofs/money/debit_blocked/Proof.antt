@@ -5,28 +5,28 @@ use borrow.Author.Rules.{rules}
 use Rattle.judge.proofs.money.debit_blocked.Statement.{statement}
 use Rattle.judge.proofs.money.debit_blocked.Tie as tie
 
-account-at-requires : tie.Need-account-at-requires
-account-at-requires c κs = c.before.requires
+account-at-requires : tie.Need-account_at-holding-requires
+account-at-requires c κs = c.requires
 
-enum-known-holding : tie.Need-enum-known-holding
+enum-known-holding : tie.Need-enum_known-holding
 enum-known-holding c = search rules
 
-blocked-out-requires : tie.Need-blocked-out-requires
+blocked-out-requires : tie.Need-blocked_out-requires
 blocked-out-requires c κs = tt
 
-enum_told : tie.Need-enum-told
+enum_told : tie.Need-enum_told-1
 enum_told c = search rules
 
-returns : tie.Need-returns
+returns : tie.Need-returns-in-Of
 unfolding debit_blocked shows
-returns c = rw (c.blocked-out.ensures, sym c.before.before.before.before.account-at.ensures ∙ c.before.before.holding.given.1)
+returns c = rw (c.blocked_out.ensures, sym c.account_at-holding.ensures ∙ c.in-Of.is)
 
-returns-2 : tie.Need-returns-2
+returns-2 : tie.Need-returns-in-None
 unfolding debit_blocked shows
-returns-2 c = rw (sym c.before.before.account-at.ensures ∙ c.enum_told.given.1)
+returns-2 c = rw (sym c.account_at-holding.ensures ∙ c.in-None.is)
 
-pub debit-blocked-spec : {M : Type 1} → statement M
-debit-blocked-spec =
+pub debit_blocked_spec : {M : Type 1} → statement M
+debit_blocked_spec =
     tie.close
     (tie.spec
     account-at-requires

@@ -4,19 +4,19 @@ use borrow.Author.Rules.{rules}
 use Rattle.judge.proofs.money.kept_in.Statement.{statement}
 use Rattle.judge.proofs.money.kept_in.Tie as tie
 
-enum-known-transfer : tie.Need-enum-known-transfer
+enum-known-transfer : tie.Need-enum_known-transfer
 enum-known-transfer c = search rules
 
-enum_told : tie.Need-enum-told
+enum_told : tie.Need-enum_told-1
 enum_told c = search rules
 
-returns : tie.Need-returns
+returns : tie.Need-returns-in-Of
 unfolding kept_in
-returns c = rw c.before.transfer.given.1
+returns c = rw c.in-Of.is
 
-returns-2 : tie.Need-returns-2
+returns-2 : tie.Need-returns-in-None
 unfolding kept_in
-returns-2 c = rw c.enum_told.given.1
+returns-2 c = rw c.in-None.is
 
-pub kept-in-spec : {M : Type 1} → statement M
-kept-in-spec = tie.close (tie.spec enum-known-transfer enum_told returns returns-2)
+pub kept_in_spec : {M : Type 1} → statement M
+kept_in_spec = tie.close (tie.spec enum-known-transfer enum_told returns returns-2)

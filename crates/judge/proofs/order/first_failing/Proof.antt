@@ -9,46 +9,46 @@ use Rattle.judge.proofs.Orders.{hit, miss, none}
 use Rattle.judge.proofs.order.first_failing.Statement.{statement}
 use Rattle.judge.proofs.order.first_failing.Tie as tie
 
-abbrev invariant-loop : tie.invariant-loop
-invariant-loop c s kind count i₀ i = (count ≡ length (order_of kind)) × (i ≤ count) × (verdict c s ≡ first_failing (fails c s) (drop i (order_of kind)))
+abbrev invariant-loop-i : tie.invariant-loop-i
+invariant-loop-i c s kind count i₀ i = (count ≡ length (order_of kind)) × (i ≤ count) × (verdict c s ≡ first_failing (fails c s) (drop i (order_of kind)))
 
-abbrev decreases-loop : tie.decreases-loop
-decreases-loop c s kind count i₀ i = count - i
+abbrev decreases-loop-i : tie.decreases-loop-i
+decreases-loop-i c s kind count i₀ i = count - i
 
-order-length-requires : tie.Need-order-length-requires invariant-loop decreases-loop
+order-length-requires : tie.Need-order_length-count-requires invariant-loop-i decreases-loop-i
 order-length-requires c κs = tt
 
-loop-holds : tie.Need-loop-init invariant-loop decreases-loop
+loop-holds : tie.Need-loop-i-init invariant-loop-i decreases-loop-i
 unfolding verdict
-loop-holds c = (c.order-length.ensures, omega arith, refl)
+loop-holds c = (c.order_length-count.ensures, omega arith, refl)
 
-order-at-requires : tie.Need-order-at-requires invariant-loop decreases-loop
+order-at-requires : tie.Need-order_at-number-requires invariant-loop-i decreases-loop-i
 order-at-requires c κs = tt
 
-fails-requires : tie.Need-fails-requires invariant-loop decreases-loop
-fails-requires c κs = c.before.before.before.before.before.before.requires
+fails-requires : tie.Need-fails-requires invariant-loop-i decreases-loop-i
+fails-requires c κs = c.requires
 
-returns : tie.Need-returns invariant-loop decreases-loop
-returns c = sym (c.before.before.before.before.loop.invariant.2 ∙ hit (fails c.before.before.before.before.before.before.before.before.args.c c.before.before.before.before.before.before.before.before.args.s.now) (order_of c.before.before.before.before.before.before.before.before.args.c.message.kind) c.before.before.before.before.loop.i c.before.before.order-at.result (omega arith) c.before.before.order-at.ensures (sym c.before.fails.ensures ∙ c.if1.true))
+returns : tie.Need-returns-then-fails invariant-loop-i decreases-loop-i
+returns c = sym (c.loop-i.invariant.2 ∙ hit (fails c.args.c c.args.s.now) (order_of c.args.c.message.kind) c.loop-i.i c.order_at-number.result (omega arith) c.order_at-number.ensures (sym c.fails.ensures ∙ c.if-fails.true))
 
-add-i : tie.Need-overflow-add-i invariant-loop decreases-loop
+add-i : tie.Need-overflow_add-i invariant-loop-i decreases-loop-i
 add-i c = omega arith
 
-loop-less : tie.Need-loop-smaller invariant-loop decreases-loop
+loop-less : tie.Need-loop-i-smaller invariant-loop-i decreases-loop-i
 loop-less c = omega arith
 
-loop-again : tie.Need-loop-preserved invariant-loop decreases-loop
-loop-again c = (omega arith, omega arith, c.before.before.before.before.loop.invariant.2 ∙ miss (fails c.before.before.before.before.before.before.before.before.args.c c.before.before.before.before.before.before.before.before.args.s.now) (order_of c.before.before.before.before.before.before.before.before.args.c.message.kind) c.before.before.before.before.loop.i c.before.before.order-at.result (omega arith) c.before.before.order-at.ensures (sym c.before.fails.ensures ∙ c.if1.false))
+loop-again : tie.Need-loop-i-preserved invariant-loop-i decreases-loop-i
+loop-again c = (omega arith, omega arith, c.loop-i.invariant.2 ∙ miss (fails c.args.c c.args.s.now) (order_of c.args.c.message.kind) c.loop-i.i c.order_at-number.result (omega arith) c.order_at-number.ensures (sym c.fails.ensures ∙ c.if-fails.false))
 
-returns-2 : tie.Need-returns-2 invariant-loop decreases-loop
-returns-2 c = sym (c.before.loop.invariant.2 ∙ none (fails c.before.before.before.before.before.args.c c.before.before.before.before.before.args.s.now) (order_of c.before.before.before.before.before.args.c.message.kind) c.before.loop.i (omega arith))
+returns-2 : tie.Need-returns invariant-loop-i decreases-loop-i
+returns-2 c = sym (c.loop-i.invariant.2 ∙ none (fails c.args.c c.args.s.now) (order_of c.args.c.message.kind) c.loop-i.i (omega arith))
 
-pub first-failing-spec : {M : Type 1} → statement M
-first-failing-spec =
+pub first_failing_spec : {M : Type 1} → statement M
+first_failing_spec =
     tie.close
     (tie.spec
-    invariant-loop
-    decreases-loop
+    invariant-loop-i
+    decreases-loop-i
     order-length-requires
     loop-holds
     order-at-requires

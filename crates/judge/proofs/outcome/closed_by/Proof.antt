@@ -8,52 +8,52 @@ use borrow.Author.Rules.{rules}
 use Rattle.judge.proofs.outcome.closed_by.Statement.{statement}
 use Rattle.judge.proofs.outcome.closed_by.Tie as tie
 
-enum_told : tie.Need-enum-told
+enum_told : tie.Need-enum_told-1
 enum_told c = search rules
 
-enum-told-2 : tie.Need-enum-told-2
+enum-told-2 : tie.Need-enum_told-in-Camt050
 enum-told-2 c = search rules
 
-enum-told-3 : tie.Need-enum-told-3
+enum-told-3 : tie.Need-enum_told-in-Pacs028
 enum-told-3 c = search rules
 
-enum-told-4 : tie.Need-enum-told-4
+enum-told-4 : tie.Need-enum_told-in-Pacs002
 enum-told-4 c = search rules
 
-is-rejecting-requires : tie.Need-is-rejecting-requires
+is-rejecting-requires : tie.Need-is_rejecting-requires
 is-rejecting-requires c κs = tt
 
-due-to-requires : tie.Need-due-to-requires
-due-to-requires c κs = c.before.before.before.before.before.before.requires
+due-to-requires : tie.Need-due_to-requires
+due-to-requires c κs = c.requires
 
-step-number-requires : tie.Need-step-number-requires
+step-number-requires : tie.Need-step_number-requires
 step-number-requires c κs =
-    let at = c.before.before.before.before.before.before.before.args in
-    ap place_fits c.due-to.ensures ∙ due-within at.c at.s.now c.before.before.before.before.before.before.before.requires.1
+    let at = c.args in
+    ap place_fits c.due_to.ensures ∙ due-within at.c at.s.now c.requires.1
 
-returns : tie.Need-returns
+returns : tie.Need-returns-in-Pacs008
 unfolding closed_by
-returns c = rw c.enum_told.given.1
+returns c = rw c.in-Pacs008.is
 
-returns-2 : tie.Need-returns-2
+returns-2 : tie.Need-returns-in-Camt050
 unfolding closed_by
-returns-2 c = rw c.enum-told2.given.1
+returns-2 c = rw c.in-Camt050.is
 
-returns-3 : tie.Need-returns-3
+returns-3 : tie.Need-returns-in-Pacs028
 unfolding closed_by
-returns-3 c = rw c.enum-told3.given.1
+returns-3 c = rw c.in-Pacs028.is
 
-returns-4 : tie.Need-returns-4
+returns-4 : tie.Need-returns-then-check-is_rejecting
 returns-4 c =
-    let asked = c.before.before.before in
-    c.step-number.ensures ∙ ap step_number c.before.due-to.ensures
-    ∙ closes-one _ _ _ asked.before.enum-told4.given.1 asked.is-rejecting.result asked.is-rejecting.ensures c.before.before.if1.true
+    let asked = c in
+    c.step_number.ensures ∙ ap step_number c.due_to.ensures
+    ∙ closes-one _ _ _ asked.in-Pacs002.is asked.is_rejecting.result asked.is_rejecting.ensures c.if-check-is_rejecting.true
 
-returns-5 : tie.Need-returns-5
-returns-5 c = closes-none _ _ _ c.before.before.enum-told4.given.1 c.before.is-rejecting.result c.before.is-rejecting.ensures c.if1.false
+returns-5 : tie.Need-returns-else-check-is_rejecting
+returns-5 c = closes-none _ _ _ c.in-Pacs002.is c.is_rejecting.result c.is_rejecting.ensures c.if-check-is_rejecting.false
 
-pub closed-by-spec : {M : Type 1} → statement M
-closed-by-spec =
+pub closed_by_spec : {M : Type 1} → statement M
+closed_by_spec =
     tie.close
     (tie.spec
     enum_told

@@ -7,22 +7,22 @@ use borrow.Author.Rules.{rules}
 use Rattle.judge.proofs.outcome.step_number.Statement.{statement}
 use Rattle.judge.proofs.outcome.step_number.Tie as tie
 
-enum-known-transfer : tie.Need-enum-known-transfer
+enum-known-transfer : tie.Need-enum_known-transfer
 enum-known-transfer c = search rules
 
-add-result : tie.Need-overflow-add-result
-add-result c = omega (arith, place-low c.before.transfer.given.1 c.before.before.before.requires)
+add-result : tie.Need-overflow_add-result
+add-result c = omega (arith, place-low c.in-Of.is c.requires)
 
-enum_told : tie.Need-enum-told
+enum_told : tie.Need-enum_told-1
 enum_told c = search rules
 
-returns : tie.Need-returns
+returns : tie.Need-returns-in-Of
 unfolding step_number
-returns c = rw c.before.transfer.given.1 (add-one _)
+returns c = rw c.in-Of.is (add-one _)
 
-returns-2 : tie.Need-returns-2
+returns-2 : tie.Need-returns-in-None
 unfolding step_number
-returns-2 c = rw c.enum_told.given.1
+returns-2 c = rw c.in-None.is
 
-pub step-number-spec : {M : Type 1} → statement M
-step-number-spec = tie.close (tie.spec enum-known-transfer add-result enum_told returns returns-2)
+pub step_number_spec : {M : Type 1} → statement M
+step_number_spec = tie.close (tie.spec enum-known-transfer add-result enum_told returns returns-2)

@@ -8,28 +8,28 @@ use Rattle.judge.specs.Verdict.{told_of}
 use Rattle.judge.proofs.outcome.told_of.Statement.{statement}
 use Rattle.judge.proofs.outcome.told_of.Tie as tie
 
-enum-known-payment : tie.Need-enum-known-payment
+enum-known-payment : tie.Need-enum_known-payment
 enum-known-payment c = search rules
 
-result-now-requires : tie.Need-result-now-requires
+result-now-requires : tie.Need-result_now-requires
 result-now-requires c κs =
     let start : tie.Start = c.before.before.before.before in
-    (start.requires.0, start.requires.1, ltb-true _ steps (sym (ap place_fits c.before.payment.given.1) ∙ start.requires.2))
+    (start.requires.0, start.requires.1, ltb-true _ steps (sym (ap place_fits c.in-Of.is) ∙ start.requires.2))
 
-enum_told : tie.Need-enum-told
+enum_told : tie.Need-enum_told-1
 enum_told c = search rules
 
-status-number-requires : tie.Need-status-number-requires
+status-number-requires : tie.Need-status_number-requires
 status-number-requires c κs = tt
 
-returns : tie.Need-returns
+returns : tie.Need-returns-in-Of
 unfolding told_of
-returns c = rw c.before.before.payment.given.1 c.result-now.ensures
+returns c = rw c.in-Of.is c.result_now.ensures
 
-returns-2 : tie.Need-returns-2
+returns-2 : tie.Need-returns-in-None
 unfolding told_of
-returns-2 c = rw (c.before.enum_told.given.1, c.status-number.ensures)
+returns-2 c = rw (c.in-None.is, c.status_number.ensures)
 
-pub told-of-spec : {M : Type 1} → statement M
-told-of-spec =
+pub told_of_spec : {M : Type 1} → statement M
+told_of_spec =
     tie.close (tie.spec enum-known-payment result-now-requires enum_told status-number-requires returns returns-2)

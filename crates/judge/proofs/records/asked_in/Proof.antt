@@ -4,38 +4,38 @@ use Rattle.judge.specs.Records.{asked_in}
 use Rattle.judge.proofs.records.asked_in.Statement.{statement}
 use Rattle.judge.proofs.records.asked_in.Tie as tie
 
-enum-known-received : tie.Need-enum-known-received
+enum-known-received : tie.Need-enum_known-received
 enum-known-received c = search rules
 
-nothing-asked-requires : tie.Need-nothing-asked-requires
+nothing-asked-requires : tie.Need-nothing_asked-requires
 nothing-asked-requires c κs = tt
 
-enum-known-received-2 : tie.Need-enum-known-received-2
+enum-known-received-2 : tie.Need-enum_known-received-in-BadField-1
 enum-known-received-2 c = search rules
 
-nothing-asked-requires-2 : tie.Need-nothing-asked-requires-2
+nothing-asked-requires-2 : tie.Need-nothing_asked-requires-in-BadField
 nothing-asked-requires-2 c κs = tt
 
-enum-known-received-3 : tie.Need-enum-known-received-3
+enum-known-received-3 : tie.Need-enum_known-received-in-Good-1
 enum-known-received-3 c = search rules
 
-asked-by-requires : tie.Need-asked-by-requires
+asked-by-requires : tie.Need-asked_by-requires
 asked-by-requires c κs = tt
 
-returns : tie.Need-returns
+returns : tie.Need-returns-in-IllFormed
 unfolding asked_in
-returns c = rw c.before.before.received.given.1 c.nothing-asked.ensures
+returns c = rw c.in-IllFormed.is c.nothing_asked.ensures
 
-returns-2 : tie.Need-returns-2
+returns-2 : tie.Need-returns-in-BadField
 unfolding asked_in
-returns-2 c = rw c.before.before.received2.given.1 c.nothing-asked2.ensures
+returns-2 c = rw c.in-BadField.is c.nothing_asked-in-BadField.ensures
 
-returns-3 : tie.Need-returns-3
+returns-3 : tie.Need-returns-in-Good
 unfolding asked_in
-returns-3 c = rw c.before.before.received3.given.1 c.asked_by.ensures
+returns-3 c = rw c.in-Good.is c.asked_by.ensures
 
-pub asked-in-spec : {M : Type 1} → statement M
-asked-in-spec =
+pub asked_in_spec : {M : Type 1} → statement M
+asked_in_spec =
     tie.close
     (tie.spec
     enum-known-received

@@ -4,11 +4,11 @@ use Rattle.judge.proofs.repeats.due_to.Statement.{statement}
 use Rattle.judge.proofs.repeats.due_to.Tie as tie
 
 earliest-requires : tie.Need-earliest-requires
-earliest-requires c κs = c.before.before.requires
+earliest-requires c κs = c.requires
 
 returns : tie.Need-returns
 unfolding due_to
 returns c = rw c.earliest.ensures
 
-pub due-to-spec : {M : Type 1} → statement M
-due-to-spec = tie.close (tie.spec earliest-requires returns)
+pub due_to_spec : {M : Type 1} → statement M
+due_to_spec = tie.close (tie.spec earliest-requires returns)

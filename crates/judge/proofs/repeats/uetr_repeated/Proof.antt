@@ -4,14 +4,14 @@ use Rattle.judge.proofs.repeats.uetr_repeated.Statement.{statement}
 use Rattle.judge.proofs.repeats.uetr_repeated.Tie as tie
 
 earliest-requires : tie.Need-earliest-requires
-earliest-requires c κs = c.before.before.requires
+earliest-requires c κs = c.requires
 
-is-there-requires : tie.Need-is-there-requires
+is-there-requires : tie.Need-is_there-requires
 is-there-requires c κs = tt
 
 returns : tie.Need-returns
 unfolding uetr_repeated
-returns c = rw (c.is-there.ensures, c.before.earliest.ensures)
+returns c = rw (c.is_there.ensures, c.earliest.ensures)
 
-pub uetr-repeated-spec : {M : Type 1} → statement M
-uetr-repeated-spec = tie.close (tie.spec earliest-requires is-there-requires returns)
+pub uetr_repeated_spec : {M : Type 1} → statement M
+uetr_repeated_spec = tie.close (tie.spec earliest-requires is-there-requires returns)

@@ -4,35 +4,35 @@ use borrow.Author.Rules.{rules}
 use Rattle.judge.proofs.reply.transfer_declined.Statement.{statement}
 use Rattle.judge.proofs.reply.transfer_declined.Tie as tie
 
-enum_told : tie.Need-enum-told
+enum_told : tie.Need-enum_told-1
 enum_told c = search rules
 
-enum-told-2 : tie.Need-enum-told-2
+enum-told-2 : tie.Need-enum_told-in-Accepts
 enum-told-2 c = search rules
 
-enum-told-3 : tie.Need-enum-told-3
+enum-told-3 : tie.Need-enum_told-in-Declines
 enum-told-3 c = search rules
 
-enum-told-4 : tie.Need-enum-told-4
+enum-told-4 : tie.Need-enum_told-in-Refuses
 enum-told-4 c = search rules
 
-returns : tie.Need-returns
+returns : tie.Need-returns-in-NoReply
 unfolding transfer_declined declines
-returns c = rw c.enum_told.given.1
+returns c = rw c.in-NoReply.is
 
-returns-2 : tie.Need-returns-2
+returns-2 : tie.Need-returns-in-Accepts
 unfolding transfer_declined declines
-returns-2 c = rw c.enum-told2.given.1
+returns-2 c = rw c.in-Accepts.is
 
-returns-3 : tie.Need-returns-3
+returns-3 : tie.Need-returns-in-Declines
 unfolding transfer_declined declines
-returns-3 c = rw c.enum-told3.given.1
+returns-3 c = rw c.in-Declines.is
 
-returns-4 : tie.Need-returns-4
+returns-4 : tie.Need-returns-in-Refuses
 unfolding transfer_declined declines
-returns-4 c = rw c.enum-told4.given.1
+returns-4 c = rw c.in-Refuses.is
 
-pub transfer-declined-spec : {M : Type 1} → statement M
-transfer-declined-spec =
+pub transfer_declined_spec : {M : Type 1} → statement M
+transfer_declined_spec =
     tie.close
     (tie.spec enum_told enum-told-2 enum-told-3 enum-told-4 returns returns-2 returns-3 returns-4)

@@ -3,13 +3,13 @@ use Rattle.judge.specs.Rows.{debtor_elsewhere}
 use Rattle.judge.proofs.routing.debtor_elsewhere.Statement.{statement}
 use Rattle.judge.proofs.routing.debtor_elsewhere.Tie as tie
 
-is-sep-requires : tie.Need-is-sep-requires
+is-sep-requires : tie.Need-is_sep-requires
 is-sep-requires c κs = tt
 
 agree-requires : tie.Need-agree-requires
 agree-requires c κs = tt
 
-head-in-requires : tie.Need-head-in-requires
+head-in-requires : tie.Need-head_in-requires
 head-in-requires c κs = tt
 
 agree-requires-2 : tie.Need-agree-requires-2
@@ -17,8 +17,8 @@ agree-requires-2 c κs = tt
 
 returns : tie.Need-returns
 unfolding debtor_elsewhere
-returns c = rw (c.agree2.ensures, c.before.head_in.ensures, c.before.before.agree.ensures, c.before.before.before.is-sep.ensures)
+returns c = rw (c.agree-2.ensures, c.head_in.ensures, c.agree.ensures, c.is_sep.ensures)
 
-pub debtor-elsewhere-spec : {M : Type 1} → statement M
-debtor-elsewhere-spec =
+pub debtor_elsewhere_spec : {M : Type 1} → statement M
+debtor_elsewhere_spec =
     tie.close (tie.spec is-sep-requires agree-requires head-in-requires agree-requires-2 returns)

@@ -13,20 +13,20 @@ unfolding agree
 agree-none (Of a) = refl
 agree-none None = refl
 
-enum-known-w : tie.Need-enum-known-w
+enum-known-w : tie.Need-enum_known-w
 enum-known-w c = search rules
 
-is-number-requires : tie.Need-is-number-requires
+is-number-requires : tie.Need-is_number-requires
 is-number-requires c κs = tt
 
-enum_told : tie.Need-enum-told
+enum_told : tie.Need-enum_told-1
 enum_told c = search rules
 
-returns : tie.Need-returns
-returns c = rw (c.is_number.ensures, c.before.before.w.given.1)
+returns : tie.Need-returns-in-Of
+returns c = rw (c.is_number.ensures, c.in-Of.is)
 
-returns-2 : tie.Need-returns-2
-returns-2 c = rw (c.enum_told.given.1, agree-none c.before.before.args.v)
+returns-2 : tie.Need-returns-in-None
+returns-2 c = rw (c.in-None.is, agree-none c.args.v)
 
-pub agree-spec : {M : Type 1} → statement M
-agree-spec = tie.close (tie.spec enum-known-w is-number-requires enum_told returns returns-2)
+pub agree_spec : {M : Type 1} → statement M
+agree_spec = tie.close (tie.spec enum-known-w is-number-requires enum_told returns returns-2)
