@@ -3,13 +3,19 @@
 // accepted, and is refused at the same place. The second buffer holds the longest listing that there is (`longest` in `lister/proofs`).
 #![tactic(auto)]
 
-use libc::{STDIN_FILENO, STDOUT_FILENO};
-use lister::LISTING_MOST;
+mod input;
 
-fn main() {
-    let mut sheet = io::large_buffer();
-    let n = io::read_full(STDIN_FILENO, &mut sheet);
+use input::read_full;
+use lister::LISTING_MOST;
+use std::io;
+
+// How many bytes are read at most, more than the longest sheet that is accepted.
+const INPUT_MOST: usize = 65536;
+
+fn main(rt: HostRuntime) -> io::Result<()> {
+    let mut sheet = [0u8; INPUT_MOST];
+    let n = read_full(&mut rt.stdin(), &mut sheet)?;
     let mut out = [0u8; LISTING_MOST];
     let count = lister::listing(&sheet[..n], &mut out);
-    io::write_all(STDOUT_FILENO, &out[..count]);
+    rt.write_all(&out[..count])
 }

@@ -9,24 +9,15 @@ ghost use Rattle.seat.specs.Calls.{place_fits};
 
 use directory::{Found, Gathered, Kind, Participant, RECORDS_MOST};
 use journal::{append, is_possible};
-use layout::rows::{Settings, Step};
+use layout::rows::{Account, Settings, Step};
 use layout::{ROOM_LONG, SEAT_LONG, account, head};
-use libc::STDOUT_FILENO;
 use seat::{
     Answer, Limit, Wish, close_seat, open_seat, room_fits, seat_fits, set_account, settings_of,
     take_back,
 };
 use shape::stored::{Identifier, Uetr, identifier_of, uetr_of};
 use slip::STEPS;
-
-fn put(text: &[u8]) {
-    io::write_all(STDOUT_FILENO, text);
-}
-
-fn put_number(n: u64) {
-    put(b" ");
-    io::print_decimal(STDOUT_FILENO, n);
-}
+use std::io;
 
 // The number of an answer in the table of refusals.
 fn number_of(answer: Answer) -> u64 {
@@ -42,34 +33,32 @@ fn number_of(answer: Answer) -> u64 {
 }
 
 // The seat's head and the accounts of the first two places.
-fn show(s: &[u64]) {
+fn show(rt: &impl Print, s: &[u64]) -> io::Result<()> {
     if s.len() != SEAT_LONG {
-        return;
+        return Ok(());
     }
     let h = head(s);
-    put_number(h.opening);
-    put_number(h.opened);
-    put_number(h.steps);
-    put(b"\n");
-    let mut i = 0;
-    while i < 4 {
-        let a = account(s, i);
-        put(b" ");
-        put_number(a.opening);
-        put_number(a.balance);
-        put_number(a.turnover);
-        put_number(a.settings.out);
-        put_number(a.settings.into);
-        put_number(a.settings.ltk);
-        put_number(a.settings.lpo);
-        put(b"\n");
-        i += 1;
+    println!(rt; " {} {} {}", h.opening, h.opened, h.steps)?;
+    for i in 0..4 {
+        show_account(rt, account(s, i))?;
     }
+    Ok(())
 }
 
-fn tell(call: &[u8], answer: Answer) {
-    put(call);
-    put_number(number_of(answer));
+// An account's line, set in by one blank more than the head's.
+fn show_account(rt: &impl Print, a: Account) -> io::Result<()> {
+    let settings = a.settings;
+    print!(rt; "  {} {} {}", a.opening, a.balance, a.turnover)?;
+    println!(rt;
+        " {} {} {} {}",
+        settings.out, settings.into, settings.ltk, settings.lpo
+    )
+}
+
+fn tell(rt: &impl Print, call: &[u8], answer: Answer) -> io::Result<()> {
+    let number = number_of(answer);
+    rt.write_all(call)?;
+    print!(rt; " {number}")
 }
 
 fn owner(code: u64) -> Participant {
@@ -90,28 +79,28 @@ fn class() -> Gathered
     Gathered { count: 2, records }
 }
 
-fn play_open(s: &mut [u64], sums: &[u64]) {
+fn play_open(rt: &impl Print, s: &mut [u64], sums: &[u64]) -> io::Result<()> {
     if !seat_fits(s) {
-        return;
+        return Ok(());
     }
-    tell(b"open", open_seat(s, class(), sums));
-    show(s);
+    tell(rt, b"open", open_seat(s, class(), sums))?;
+    show(rt, s)
 }
 
-fn play_close(s: &mut [u64], opening: u64) {
+fn play_close(rt: &impl Print, s: &mut [u64], opening: u64) -> io::Result<()> {
     if !seat_fits(s) {
-        return;
+        return Ok(());
     }
-    tell(b"close", close_seat(s, opening));
-    show(s);
+    tell(rt, b"close", close_seat(s, opening))?;
+    show(rt, s)
 }
 
-fn play_back(s: &mut [u64], opening: u64) {
+fn play_back(rt: &impl Print, s: &mut [u64], opening: u64) -> io::Result<()> {
     if !seat_fits(s) {
-        return;
+        return Ok(());
     }
-    tell(b"back", take_back(s, opening));
-    show(s);
+    tell(rt, b"back", take_back(s, opening))?;
+    show(rt, s)
 }
 
 // The record of the first owner.
@@ -122,15 +111,19 @@ fn first_owner() -> Found
 }
 
 // Sets account 1 or 2 of the first owner.
-fn play_set(s: &mut [u64], opening: u64, number: u64, wish: Wish) {
+fn play_set(
+    rt: &impl Print,
+    s: &mut [u64],
+    opening: u64,
+    number: u64,
+    wish: Wish,
+) -> io::Result<()> {
     if !seat_fits(s) {
-        return;
+        return Ok(());
     }
-    tell(
-        b"set",
-        set_account(s, opening, first_owner(), number, settings_of(wish)),
-    );
-    show(s);
+    let answer = set_account(s, opening, first_owner(), number, settings_of(wish));
+    tell(rt, b"set", answer)?;
+    show(rt, s)
 }
 
 fn nothing() -> Settings {
@@ -175,28 +168,27 @@ fn transfer(id: Identifier, uetr: Uetr, amount: u64) -> Step {
 }
 
 // Records a step where it is possible.
-fn play_step(s: &mut [u64], x: Step) {
+fn play_step(rt: &impl Print, s: &mut [u64], x: Step) -> io::Result<()> {
     if !seat_fits(s) {
-        return;
+        return Ok(());
     }
     let h = head(s);
     if h.opened != 1 {
-        return;
+        return Ok(());
     }
     if STEPS <= h.steps {
-        return;
+        return Ok(());
     }
     if !is_possible(s, x) {
-        put(b"record not possible\n");
-        return;
+        return println!(rt; "record not possible");
     }
     append(s, x);
-    put(b"record");
-    show(s);
+    print!(rt; "record")?;
+    show(rt, s)
 }
 
 // The lesson itself, in a seat's part of the room.
-fn in_seat(s: &mut [u64]) {
+fn in_seat(rt: &impl Print, s: &mut [u64]) -> io::Result<()> {
     let id = identifier_of(b"3000012024030100000001");
     let uetr = uetr_of(b"eb6305c9-1f7f-49de-aed0-16487c27b42d");
     let limits = Wish {
@@ -205,42 +197,42 @@ fn in_seat(s: &mut [u64]) {
         ltk: 10000,
         lpo: Limit::Of(0),
     };
-    play_open(s, &[50000, 10000, 0]);
-    play_open(s, &[50000, 10000, 0, 0]);
-    play_set(s, 1, 1, limits);
-    play_set(s, 1, 3, limits);
-    play_step(s, transfer(id, uetr, 50000));
-    play_step(s, transfer(id, uetr, 1));
-    play_back(s, 1);
-    play_back(s, 2);
-    play_back(s, 1);
-    play_back(s, 1);
-    play_close(s, 1);
-    play_close(s, 1);
-    play_open(s, &[0, 0, 7, 8]);
+    play_open(rt, s, &[50000, 10000, 0])?;
+    play_open(rt, s, &[50000, 10000, 0, 0])?;
+    play_set(rt, s, 1, 1, limits)?;
+    play_set(rt, s, 1, 3, limits)?;
+    play_step(rt, s, transfer(id, uetr, 50000))?;
+    play_step(rt, s, transfer(id, uetr, 1))?;
+    play_back(rt, s, 1)?;
+    play_back(rt, s, 2)?;
+    play_back(rt, s, 1)?;
+    play_back(rt, s, 1)?;
+    play_close(rt, s, 1)?;
+    play_close(rt, s, 1)?;
+    play_open(rt, s, &[0, 0, 7, 8])
 }
 
-fn tell_fitness(room: &[u64]) {
+fn tell_fitness(rt: &impl Print, room: &[u64]) -> io::Result<()> {
     if room_fits(room) {
-        put(b"room fit\n");
+        println!(rt; "room fit")
     } else {
-        put(b"room unfit\n");
+        println!(rt; "room unfit")
     }
 }
 
 // Plays in seat 3 of a room that was laid out, and looks at the whole room before and behind.
-fn lesson(room: &mut [u64]) {
+fn lesson(rt: &impl Print, room: &mut [u64]) -> io::Result<()> {
     if room.len() != ROOM_LONG {
-        return;
+        return Ok(());
     }
-    tell_fitness(room);
+    tell_fitness(rt, room)?;
     let from = 3 * SEAT_LONG;
     let to = from + SEAT_LONG;
-    in_seat(&mut room[from..to]);
-    tell_fitness(room);
+    in_seat(rt, &mut room[from..to])?;
+    tell_fitness(rt, room)
 }
 
-fn main() {
+fn main(rt: HostRuntime) -> io::Result<()> {
     let mut room = [0u64; ROOM_LONG];
-    lesson(&mut room);
+    lesson(&rt, &mut room)
 }

@@ -1,180 +1,135 @@
 // What is asked of shape, remainder and table.
 use crate::words::number;
-use check::same;
-use libc::STDOUT_FILENO;
 use remainder::Mod97;
 use shape::field::{Account, System};
 use shape::stored::Identifier;
 use shape::value::Value;
+use std::io;
 use table::Kind;
 
-pub fn put(text: &[u8]) {
-    io::write_all(STDOUT_FILENO, text);
+pub fn put_number(rt: &impl Print, n: u64) -> io::Result<()> {
+    print!(rt; " {n}")
 }
 
-pub fn put_number(n: u64) {
-    put(b" ");
-    io::print_decimal(STDOUT_FILENO, n);
-}
-
-pub fn put_value(v: Value) {
+pub fn put_value(rt: &impl Print, v: Value) -> io::Result<()> {
     match v {
-        Value::Of(n) => put_number(n),
-        Value::None => put(b" none"),
+        Value::Of(n) => put_number(rt, n),
+        Value::None => print!(rt; " none"),
     }
 }
 
-fn put_test(holds: bool) {
+fn put_test(rt: &impl Print, holds: bool) -> io::Result<()> {
     if holds {
-        put(b" yes");
+        print!(rt; " yes")
     } else {
-        put(b" no");
+        print!(rt; " no")
     }
 }
 
 // An IBAN's remainder, a code, a date with the day before, a time, an amount, a currency.
-pub fn numbers(word: &[u8], text: &[u8]) {
-    if same(word, b"iban") {
-        iban(text);
-        return;
-    }
-    if same(word, b"code") {
-        put_value(shape::field::code_of(text));
-        return;
-    }
-    if same(word, b"date") {
-        let n = number(text);
-        put_test(shape::date::is_date(n));
-        put_value(shape::date::day_before(n));
-        return;
-    }
-    if same(word, b"time") {
-        put_value(shape::date::time_of(text));
-        return;
-    }
-    if same(word, b"amount") {
-        put_value(shape::field::amount_of(text));
-        return;
-    }
-    if same(word, b"currency") {
-        put_value(shape::field::currency_of(text));
-        return;
+pub fn numbers(rt: &impl Print, word: &[u8], text: &[u8]) -> io::Result<()> {
+    match word {
+        b"iban" => iban(rt, text),
+        b"code" => put_value(rt, shape::field::code_of(text)),
+        b"date" => date(rt, number(text)),
+        b"time" => put_value(rt, shape::date::time_of(text)),
+        b"amount" => put_value(rt, shape::field::amount_of(text)),
+        b"currency" => put_value(rt, shape::field::currency_of(text)),
+        _ => Ok(()),
     }
 }
 
-fn iban(text: &[u8]) {
-    put_remainder(remainder::remainder(text));
-    put_test(shape::field::is_iban(text));
+fn iban(rt: &impl Print, text: &[u8]) -> io::Result<()> {
+    put_remainder(rt, remainder::remainder(text))?;
+    put_test(rt, shape::field::is_iban(text))
 }
 
-pub fn put_account(account: Account) {
-    put_number(account.digit);
-    put_number(account.code);
-    put_number(account.currency);
+fn date(rt: &impl Print, n: u64) -> io::Result<()> {
+    put_test(rt, shape::date::is_date(n))?;
+    put_value(rt, shape::date::day_before(n))
 }
 
-pub fn put_remainder(iban: Mod97) {
+pub fn put_account(rt: &impl Print, account: Account) -> io::Result<()> {
+    put_number(rt, account.digit)?;
+    put_number(rt, account.code)?;
+    put_number(rt, account.currency)
+}
+
+pub fn put_remainder(rt: &impl Print, iban: Mod97) -> io::Result<()> {
     match iban {
-        Mod97::Of(n) => put_number(n),
-        Mod97::NoIban => put(b" none"),
+        Mod97::Of(n) => put_number(rt, n),
+        Mod97::NoIban => print!(rt; " none"),
     }
 }
 
-pub fn put_system(system: System) {
+pub fn put_system(rt: &impl Print, system: System) -> io::Result<()> {
     match system {
-        System::Sep => put(b" SEP"),
-        System::Asp => put(b" ASP"),
-        System::Neither => put(b" neither"),
+        System::Sep => print!(rt; " SEP"),
+        System::Asp => print!(rt; " ASP"),
+        System::Neither => print!(rt; " neither"),
     }
 }
 
 // A UETR and an identifier in their stored form, an account, a message identifier, S, the name of a message.
-pub fn identifiers(word: &[u8], text: &[u8]) {
-    if same(word, b"uetr") {
-        uetr(text);
-        return;
-    }
-    if same(word, b"identifier") {
-        identifier(text);
-        return;
-    }
-    if same(word, b"account") {
-        put_account(shape::field::account_of(text));
-        return;
-    }
-    if same(word, b"message") {
-        put_value(shape::field::message_code_of(text));
-        return;
-    }
-    if same(word, b"system") {
-        put_system(shape::field::system_of(text));
-        return;
-    }
-    if same(word, b"original") {
-        put_test(shape::field::names_pacs_008(text));
-        return;
+pub fn identifiers(rt: &impl Print, word: &[u8], text: &[u8]) -> io::Result<()> {
+    match word {
+        b"uetr" => uetr(rt, text),
+        b"identifier" => put_stored(rt, shape::stored::identifier_of(text)),
+        b"account" => put_account(rt, shape::field::account_of(text)),
+        b"message" => put_value(rt, shape::field::message_code_of(text)),
+        b"system" => put_system(rt, shape::field::system_of(text)),
+        b"original" => put_test(rt, shape::field::names_pacs_008(text)),
+        _ => Ok(()),
     }
 }
 
-// The hexadecimal digits of each number that a UETR and that an identifier is stored as.
-pub const UETR_WIDE: usize = 16;
-
-const IDENTIFIER_WIDE: usize = 14;
-
-pub fn put_hex(n: u64, width: usize) {
-    put(b" ");
-    io::print_hex(STDOUT_FILENO, n, width);
+fn uetr(rt: &impl Print, text: &[u8]) -> io::Result<()> {
+    put_test(rt, shape::stored::is_uetr(text))?;
+    put_uetr(rt, shape::stored::uetr_of(text))
 }
 
-fn uetr(text: &[u8]) {
-    put_test(shape::stored::is_uetr(text));
-    let u = shape::stored::uetr_of(text);
-    put_hex(u.high, UETR_WIDE);
-    put_hex(u.low, UETR_WIDE);
+// The two numbers that a UETR is stored as. All 16 hexadecimal digits of each are shown.
+pub fn put_uetr(rt: &impl Print, u: shape::stored::Uetr) -> io::Result<()> {
+    print!(rt; " {:016x} {:016x}", u.high, u.low)
 }
 
-fn identifier(text: &[u8]) {
-    put_stored(shape::stored::identifier_of(text));
-}
-
-pub fn put_stored(i: Identifier) {
-    put_hex(i.first, IDENTIFIER_WIDE);
-    put_hex(i.second, IDENTIFIER_WIDE);
-    put_hex(i.third, IDENTIFIER_WIDE);
-    put_hex(i.fourth, IDENTIFIER_WIDE);
-    put_hex(i.fifth, IDENTIFIER_WIDE);
+// The five numbers that an identifier is stored as. Each holds seven bytes, so 14 hexadecimal digits are shown.
+pub fn put_stored(rt: &impl Print, i: Identifier) -> io::Result<()> {
+    print!(rt; " {:014x} {:014x} {:014x}", i.first, i.second, i.third)?;
+    print!(rt; " {:014x} {:014x}", i.fourth, i.fifth)
 }
 
 // The codes of a check, and the order of a kind.
-pub fn codes(word: &[u8], text: &[u8]) {
-    if same(word, b"check") {
-        let n = number(text);
-        put(b" ");
-        put(&table::sep_code(n));
-        put(b" ");
-        put(&table::iso_code(Kind::Pacs008, n));
-    }
-    if same(word, b"order") {
-        if same(text, b"pacs.008") {
-            order(Kind::Pacs008);
-        }
-        if same(text, b"camt.050") {
-            order(Kind::Camt050);
-        }
-        if same(text, b"pacs.028") {
-            order(Kind::Pacs028);
-        }
-        if same(text, b"pacs.002") {
-            order(Kind::Pacs002);
-        }
+pub fn codes(rt: &impl Print, word: &[u8], text: &[u8]) -> io::Result<()> {
+    match word {
+        b"check" => codes_of(rt, number(text)),
+        b"order" => order_named(rt, text),
+        _ => Ok(()),
     }
 }
 
-fn order(kind: Kind) {
-    let n = table::order_length(kind);
-    let mut i = 0;
-    while i < n {
-        put_number(table::order_at(kind, i));
-        i += 1;
+// Both codes of a check.
+fn codes_of(rt: &impl Print, n: u64) -> io::Result<()> {
+    print!(rt; " ")?;
+    rt.write_all(&table::sep_code(n))?;
+    print!(rt; " ")?;
+    rt.write_all(&table::iso_code(Kind::Pacs008, n))
+}
+
+// The order of the kind of that name, or nothing where there is none.
+fn order_named(rt: &impl Print, name: &[u8]) -> io::Result<()> {
+    match name {
+        b"pacs.008" => order(rt, Kind::Pacs008),
+        b"camt.050" => order(rt, Kind::Camt050),
+        b"pacs.028" => order(rt, Kind::Pacs028),
+        b"pacs.002" => order(rt, Kind::Pacs002),
+        _ => Ok(()),
     }
+}
+
+fn order(rt: &impl Print, kind: Kind) -> io::Result<()> {
+    for place in 0..table::order_length(kind) {
+        put_number(rt, table::order_at(kind, place))?;
+    }
+    Ok(())
 }

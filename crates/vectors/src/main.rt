@@ -4,42 +4,45 @@
 #![tactic(auto)]
 
 mod ask;
+mod input;
 mod messages;
 mod sheets;
 mod slips;
 mod words;
 
-use libc::{STDIN_FILENO, STDOUT_FILENO};
+use input::read_full;
+use std::io;
 use words::{line_end, part, word_end};
 
 // How many bytes of vectors are read.
 const VECTORS_MOST: usize = 524288;
 
-fn answer(line: &[u8]) {
-    io::write_all(STDOUT_FILENO, line);
+fn answer(rt: &impl Print, line: &[u8]) -> io::Result<()> {
+    rt.write_all(line)?;
     let end = word_end(line, 0);
     let word = part(line, 0, end);
     let text = part(line, end + 1, line.len());
-    ask::numbers(word, text);
-    ask::identifiers(word, text);
-    ask::codes(word, text);
-    slips::ask(word, text);
-    sheets::ask(word, text);
-    messages::ask(word, text);
-    io::write_all(STDOUT_FILENO, b"\n");
+    ask::numbers(rt, word, text)?;
+    ask::identifiers(rt, word, text)?;
+    ask::codes(rt, word, text)?;
+    slips::ask(rt, word, text)?;
+    sheets::ask(rt, word, text)?;
+    messages::ask(rt, word, text)?;
+    println!(rt; "")
 }
 
-fn answer_all(s: &[u8]) {
+fn answer_all(rt: &impl Print, s: &[u8]) -> io::Result<()> {
     let mut from = 0;
     while from < s.len() {
         let to = line_end(s, from);
-        answer(part(s, from, to));
+        answer(rt, part(s, from, to))?;
         from = to + 1;
     }
+    Ok(())
 }
 
-fn main() {
+fn main(rt: HostRuntime) -> io::Result<()> {
     let mut buffer = [0u8; VECTORS_MOST];
-    let n = io::read_full(STDIN_FILENO, &mut buffer);
-    answer_all(&buffer[..n]);
+    let n = read_full(&mut rt.stdin(), &mut buffer)?;
+    answer_all(&rt, &buffer[..n])
 }

@@ -1,31 +1,27 @@
 // What is asked of sheets.
-use crate::ask::{put, put_number};
-use check::same;
 use lister::LISTING_MOST;
+use std::io;
 
-fn read(text: &[u8]) {
+fn read(rt: &impl Print, text: &[u8]) -> io::Result<()> {
     let r = sheet::read(text);
     if r.accepted {
-        put(b" accepted");
-        put_number(r.count as u64);
+        print!(rt; " accepted {}", r.count)
     } else {
-        put(b" refused at");
-        put_number(r.place as u64);
+        print!(rt; " refused at {}", r.place)
     }
 }
 
-fn list(text: &[u8]) {
+fn list(rt: &impl Print, text: &[u8]) -> io::Result<()> {
     let mut out = [0u8; LISTING_MOST];
     let count = lister::listing(text, &mut out);
-    put(b"\n");
-    put(&out[..count]);
+    println!(rt; "")?;
+    rt.write_all(&out[..count])
 }
 
-pub fn ask(word: &[u8], text: &[u8]) {
-    if same(word, b"sheet") {
-        read(text);
-    }
-    if same(word, b"list") {
-        list(text);
+pub fn ask(rt: &impl Print, word: &[u8], text: &[u8]) -> io::Result<()> {
+    match word {
+        b"sheet" => read(rt, text),
+        b"list" => list(rt, text),
+        _ => Ok(()),
     }
 }

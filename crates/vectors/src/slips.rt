@@ -1,9 +1,7 @@
 // What is asked of slips.
-use crate::ask::{put, put_number};
 use crate::words::{number, part, word_end};
-use check::same;
-use libc::STDOUT_FILENO;
 use slip::{Reading, SLIP_LONG, Slip, Writing};
+use std::io;
 
 // What writing is given: the bytes of a slip, and two after them that it must leave.
 const BUFFER_LONG: usize = SLIP_LONG + 2;
@@ -62,47 +60,36 @@ fn slip_in(s: &[u8]) -> Slip {
     }
 }
 
-fn put_slip(s: Slip) {
-    put_number(s.kind);
-    put_number(s.status);
-    put_number(s.check);
-    put_number(s.seat);
-    put_number(s.opening);
-    put_number(s.step);
-}
-
-fn put_byte(b: u8) {
-    io::print_hex(STDOUT_FILENO, b as u64, 2);
+fn put_slip(rt: &impl Print, s: Slip) -> io::Result<()> {
+    print!(rt; " {} {} {}", s.kind, s.status, s.check)?;
+    print!(rt; " {} {} {}", s.seat, s.opening, s.step)
 }
 
 // Writes into a buffer that is longer than a slip, and shows all of it.
-fn write(text: &[u8]) {
+fn write(rt: &impl Print, text: &[u8]) -> io::Result<()> {
     let mut buffer = [0xeeu8; BUFFER_LONG];
     match slip::write(slip_in(text), &mut buffer) {
-        Writing::Written => put(b" 0"),
-        Writing::NotWritten => put(b" 11"),
+        Writing::Written => print!(rt; " 0 ")?,
+        Writing::NotWritten => print!(rt; " 11 ")?,
     }
-    put(b" ");
-    let mut i = 0;
-    while i < BUFFER_LONG {
-        put_byte(buffer[i]);
-        i += 1;
+    for byte in &buffer {
+        print!(rt; "{byte:02x}")?;
     }
+    Ok(())
 }
 
-fn read(text: &[u8]) {
+fn read(rt: &impl Print, text: &[u8]) -> io::Result<()> {
     let few = bytes_in(text);
     match slip::read(part(&few.bytes, 0, few.count)) {
-        Reading::Holds(s) => put_slip(s),
-        Reading::NoSlip => put(b" no slip"),
+        Reading::Holds(s) => put_slip(rt, s),
+        Reading::NoSlip => print!(rt; " no slip"),
     }
 }
 
-pub fn ask(word: &[u8], text: &[u8]) {
-    if same(word, b"write") {
-        write(text);
-    }
-    if same(word, b"read") {
-        read(text);
+pub fn ask(rt: &impl Print, word: &[u8], text: &[u8]) -> io::Result<()> {
+    match word {
+        b"write" => write(rt, text),
+        b"read" => read(rt, text),
+        _ => Ok(()),
     }
 }
