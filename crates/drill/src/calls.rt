@@ -4,12 +4,13 @@ ghost use Rattle.std.specs.Prelude.{◌≤◌};
 use crate::show::{put_buffer, tell};
 use crate::words::{Numbers, part, words_end};
 use centre::{Ticket, close_seat, lay_out, read_slip, take_back, write_slip};
-use check::same;
 use directory::Gathered;
 use lender::{open_with, read_with, set_with, submit_with};
 use seat::{Limit, Wish};
 use shape::byte::{is_digit, peek};
 use slip::Slip;
+use std::io;
+use std::io::Write;
 
 // How many bytes a slip's buffer has at most.
 const BUFFER_MOST: usize = 8;
@@ -42,9 +43,10 @@ fn sums(values: &[u64], count: usize) -> &[u64] {
     &values[1..count]
 }
 
-fn open(room: &mut [u64], g: Gathered, n: Numbers) {
+fn open<W: Write>(out: &mut W, room: &mut [u64], g: Gathered, n: Numbers) -> io::Result<()> {
     let values = n.values;
-    tell(open_with(room, g, values[0], sums(&values, n.count)), 1);
+    let answer = open_with(room, g, values[0], sums(&values, n.count));
+    tell(out, answer, 1)
 }
 
 // The LPO that ends a line: a number, or `-` for none.
@@ -57,7 +59,13 @@ fn limit(line: &[u8], n: u64) -> Limit {
     Limit::Of(n)
 }
 
-fn set(line: &[u8], room: &mut [u64], g: Gathered, n: Numbers) {
+fn set<W: Write>(
+    out: &mut W,
+    line: &[u8],
+    room: &mut [u64],
+    g: Gathered,
+    n: Numbers,
+) -> io::Result<()> {
     let values = n.values;
     let wish = Wish {
         out: values[4] == 1,
@@ -65,62 +73,67 @@ fn set(line: &[u8], room: &mut [u64], g: Gathered, n: Numbers) {
         ltk: values[6],
         lpo: limit(line, values[7]),
     };
-    tell(set_with(room, g, ticket(n), values[2], values[3], wish), 0);
+    let answer = set_with(room, g, ticket(n), values[2], values[3], wish);
+    tell(out, answer, 0)
 }
 
 // The sheet is all that stands behind the sixth word.
-fn submit_in(line: &[u8], room: &mut [u64], g: Gathered, n: Numbers, buffer: &mut [u8]) {
+fn submit_in<W: Write>(
+    out: &mut W,
+    line: &[u8],
+    room: &mut [u64],
+    g: Gathered,
+    n: Numbers,
+    buffer: &mut [u8],
+) -> io::Result<()> {
     let values = n.values;
     let sheet = part(line, words_end(line, 5) + 1, line.len());
     let answer = submit_with(room, g, ticket(n), values[2], values[3], sheet, buffer);
-    tell(answer, 0);
-    put_buffer(buffer);
+    tell(out, answer, 0)?;
+    put_buffer(out, buffer)
 }
 
-fn submit(line: &[u8], room: &mut [u64], g: Gathered, n: Numbers) {
+fn submit<W: Write>(
+    out: &mut W,
+    line: &[u8],
+    room: &mut [u64],
+    g: Gathered,
+    n: Numbers,
+) -> io::Result<()> {
     let values = n.values;
     let long = buffer_long(values[4]);
     let mut buffer = [170u8; BUFFER_MOST];
-    submit_in(line, room, g, n, &mut buffer[..long]);
+    submit_in(out, line, room, g, n, &mut buffer[..long])
 }
 
-fn read(room: &[u64], g: Gathered, n: Numbers) {
+fn read<W: Write>(out: &mut W, room: &[u64], g: Gathered, n: Numbers) -> io::Result<()> {
     let values = n.values;
-    tell(read_with(room, g, ticket(n), values[2], values[3]), 7);
+    let answer = read_with(room, g, ticket(n), values[2], values[3]);
+    tell(out, answer, 7)
 }
 
-// The calls on a room.
-pub fn on_room(word: &[u8], line: &[u8], room: &mut [u64], g: Gathered, n: Numbers) {
-    if same(word, b"lay") {
-        tell(lay_out(room), 0);
-        return;
-    }
-    if same(word, b"open") {
-        open(room, g, n);
-        return;
-    }
-    if same(word, b"close") {
-        tell(close_seat(room, ticket(n)), 0);
-        return;
-    }
-    if same(word, b"set") {
-        set(line, room, g, n);
-        return;
-    }
-    if same(word, b"submit") {
-        submit(line, room, g, n);
-        return;
-    }
-    if same(word, b"back") {
-        tell(take_back(room, ticket(n)), 0);
-        return;
-    }
-    if same(word, b"read") {
-        read(room, g, n);
+// The calls on a room. Other words make none.
+pub fn on_room<W: Write>(
+    out: &mut W,
+    word: &[u8],
+    line: &[u8],
+    room: &mut [u64],
+    g: Gathered,
+    n: Numbers,
+) -> io::Result<()> {
+    match word {
+        b"lay" => tell(out, lay_out(room), 0),
+        b"open" => open(out, room, g, n),
+        b"close" => tell(out, close_seat(room, ticket(n)), 0),
+        b"set" => set(out, line, room, g, n),
+        b"submit" => submit(out, line, room, g, n),
+        b"back" => tell(out, take_back(room, ticket(n)), 0),
+        b"read" => read(out, room, g, n),
+        _ => Ok(()),
     }
 }
 
-fn write_in(n: Numbers, buffer: &mut [u8]) {
+fn write_in<W: Write>(out: &mut W, n: Numbers, buffer: &mut [u8]) -> io::Result<()> {
     let values = n.values;
     let slip = Slip {
         kind: values[0],
@@ -130,15 +143,16 @@ fn write_in(n: Numbers, buffer: &mut [u8]) {
         opening: values[4],
         step: values[5],
     };
-    tell(write_slip(slip, buffer), 0);
-    put_buffer(buffer);
+    let answer = write_slip(slip, buffer);
+    tell(out, answer, 0)?;
+    put_buffer(out, buffer)
 }
 
-fn write(n: Numbers) {
+fn write<W: Write>(out: &mut W, n: Numbers) -> io::Result<()> {
     let values = n.values;
     let long = buffer_long(values[6]);
     let mut buffer = [170u8; BUFFER_MOST];
-    write_in(n, &mut buffer[..long]);
+    write_in(out, n, &mut buffer[..long])
 }
 
 // What a hexadecimal digit stands for.
@@ -162,13 +176,11 @@ struct Few {
 
 fn bytes_in(s: &[u8]) -> Few {
     let mut bytes = [0u8; BUFFER_MOST];
-    let mut i = 0;
-    while i < BUFFER_MOST {
+    for i in 0..BUFFER_MOST {
         if s.len() <= 2 * i + 1 {
             return Few { bytes, count: i };
         }
         bytes[i] = byte(peek(s, 2 * i), peek(s, 2 * i + 1));
-        i += 1;
     }
     Few {
         bytes,
@@ -176,17 +188,17 @@ fn bytes_in(s: &[u8]) -> Few {
     }
 }
 
-fn slip(text: &[u8]) {
+fn slip<W: Write>(out: &mut W, text: &[u8]) -> io::Result<()> {
     let few = bytes_in(text);
-    tell(read_slip(part(&few.bytes, 0, few.count)), 6);
+    let answer = read_slip(part(&few.bytes, 0, few.count));
+    tell(out, answer, 6)
 }
 
-// The calls on slips.
-pub fn on_slips(word: &[u8], line: &[u8], n: Numbers) {
-    if same(word, b"write") {
-        write(n);
-    }
-    if same(word, b"slip") {
-        slip(part(line, words_end(line, 0) + 1, line.len()));
+// The calls on slips. Other words make none.
+pub fn on_slips<W: Write>(out: &mut W, word: &[u8], line: &[u8], n: Numbers) -> io::Result<()> {
+    match word {
+        b"write" => write(out, n),
+        b"slip" => slip(out, part(line, words_end(line, 0) + 1, line.len())),
+        _ => Ok(()),
     }
 }

@@ -13,17 +13,21 @@
 #![tactic(auto)]
 
 mod calls;
+mod input;
 mod records;
 mod rows;
 mod show;
 mod words;
 
-use check::same;
+ghost use Rattle.std.specs.Prelude.{◌≡◌, length};
+
 use directory::Gathered;
+use input::read_full;
 use layout::ROOM_LONG;
-use libc::STDIN_FILENO;
 use records::{directory_behind, no_records};
-use show::{dump, put, seat_part};
+use show::{dump, seat_part};
+use std::io;
+use std::io::{BufWriter, Read, Write};
 use words::{Numbers, line_end, numbers_in, part, word_end, words_end};
 
 // How many bytes of a script are read, and how many numbers a room can be lent with: more than a room has, so that one can be too long.
@@ -34,10 +38,10 @@ const ROOM_MOST: usize = ROOM_LONG + 16;
 // What is printed of a line: all but a sheet.
 fn head(line: &[u8]) -> &[u8] {
     let word = part(line, 0, word_end(line, 0));
-    if same(word, b"submit") {
+    if word == b"submit".as_slice() {
         return part(line, 0, words_end(line, 5));
     }
-    if same(word, b"rows") {
+    if word == b"rows".as_slice() {
         return part(line, 0, words_end(line, 3));
     }
     line
@@ -46,7 +50,7 @@ fn head(line: &[u8]) -> &[u8] {
 // The length of the room behind a line.
 fn length_behind(long: usize, word: &[u8], n: Numbers) -> usize {
     let values = n.values;
-    if !same(word, b"lay") {
+    if word != b"lay".as_slice() {
         return long;
     }
     if ROOM_MOST < values[0] as usize {
@@ -57,7 +61,7 @@ fn length_behind(long: usize, word: &[u8], n: Numbers) -> usize {
 
 fn poke(word: &[u8], numbers: &mut [u64], n: Numbers) {
     let values = n.values;
-    if !same(word, b"poke") {
+    if word != b"poke".as_slice() {
         return;
     }
     if values[0] < numbers.len() as u64 {
@@ -65,29 +69,36 @@ fn poke(word: &[u8], numbers: &mut [u64], n: Numbers) {
     }
 }
 
-fn dump_seat(word: &[u8], numbers: &[u64], n: Numbers) {
+fn dump_seat<W: Write>(out: &mut W, word: &[u8], numbers: &[u64], n: Numbers) -> io::Result<()> {
     let values = n.values;
-    if !same(word, b"dump") {
-        return;
+    if word != b"dump".as_slice() {
+        return Ok(());
     }
-    dump(seat_part(numbers, values[0]));
+    dump(out, seat_part(numbers, values[0]))
 }
 
-fn answer(line: &[u8], numbers: &mut [u64], long: usize, g: Gathered, n: Numbers) {
+fn answer<W: Write>(
+    out: &mut W,
+    line: &[u8],
+    numbers: &mut [u64],
+    long: usize,
+    g: Gathered,
+    n: Numbers,
+) -> io::Result<()> {
     let word = part(line, 0, word_end(line, 0));
     if numbers.len() < long {
-        return;
+        return Ok(());
     }
-    put(head(line));
+    out.write_all(head(line))?;
     poke(word, numbers, n);
-    calls::on_room(word, line, &mut numbers[..long], g, n);
-    calls::on_slips(word, line, n);
-    rows::on_rows(word, line, numbers, g, n);
-    put(b"\n");
-    dump_seat(word, numbers, n);
+    calls::on_room(out, word, line, &mut numbers[..long], g, n)?;
+    calls::on_slips(out, word, line, n)?;
+    rows::on_rows(out, word, line, numbers, g, n)?;
+    out.write_all(b"\n")?;
+    dump_seat(out, word, numbers, n)
 }
 
-fn play(s: &[u8], numbers: &mut [u64]) {
+fn play<W: Write>(out: &mut W, s: &[u8], numbers: &mut [u64]) -> io::Result<()> {
     let mut g = no_records();
     let mut long = 0;
     let mut from = 0;
@@ -98,14 +109,34 @@ fn play(s: &[u8], numbers: &mut [u64]) {
         let n = numbers_in(head(line));
         g = directory_behind(g, word, n);
         long = length_behind(long, word, n);
-        answer(line, numbers, long, g, n);
+        answer(out, line, numbers, long, g, n)?;
         from = to + 1;
     }
+    Ok(())
 }
 
-fn main() {
-    let mut buffer = [0u8; SCRIPT_MOST];
+// Room for a script. It stands apart so that a proof sees its length alone, and not each of its bytes.
+fn no_script() -> [u8; SCRIPT_MOST]
+    ensures { length result ≡ 524288 }
+{
+    [0; SCRIPT_MOST]
+}
+
+// Plays the script that stands on the input.
+fn run<R: Read, W: Write>(
+    input: &mut R,
+    out: &mut W,
+    buffer: &mut [u8],
+    room: &mut [u64],
+) -> io::Result<()> {
+    let n = read_full(input, buffer)?;
+    play(out, &buffer[..n], room)
+}
+
+fn main(rt: HostRuntime) -> io::Result<()> {
+    let mut buffer = no_script();
     let mut room = [0u64; ROOM_MOST];
-    let n = io::read_full(STDIN_FILENO, &mut buffer);
-    play(&buffer[..n], &mut room);
+    let mut out = BufWriter::new(rt.alloc(), rt.stdout())?;
+    run(&mut rt.stdin(), &mut out, &mut buffer, &mut room)?;
+    out.flush()
 }

@@ -1,6 +1,5 @@
 // The directory of a script: `forget` empties it, `record CODE INSTANT KIND NAMED` adds a record at its end.
 use crate::words::Numbers;
-use check::same;
 use directory::{Gathered, Kind, Participant, RECORDS_MOST};
 
 fn nobody() -> Participant {
@@ -53,10 +52,10 @@ fn with_record(g: Gathered, p: Participant) -> Gathered {
 
 // The directory behind a line.
 pub fn directory_behind(g: Gathered, word: &[u8], n: Numbers) -> Gathered {
-    if same(word, b"forget") {
+    if word == b"forget".as_slice() {
         return no_records();
     }
-    if same(word, b"record") {
+    if word == b"record".as_slice() {
         return with_record(g, record_in(n));
     }
     g

@@ -2,17 +2,13 @@
 use centre::Answer;
 use layout::rows::{Account, Settings, Step};
 use layout::{ACCOUNTS, ROOM_LONG, SEAT_LONG, account, head, seat_in, step};
-use libc::STDOUT_FILENO;
 use shape::stored::Identifier;
 use slip::{SEATS, STEPS, Slip};
+use std::io;
+use std::io::Write;
 
-pub fn put(text: &[u8]) {
-    io::write_all(STDOUT_FILENO, text);
-}
-
-pub fn put_number(n: u64) {
-    put(b" ");
-    io::print_decimal(STDOUT_FILENO, n);
+pub fn put_number<W: Write>(out: &mut W, n: u64) -> io::Result<()> {
+    write!(out, " {n}")
 }
 
 // The number of an answer in the table of refusals.
@@ -46,62 +42,56 @@ fn detail_of(answer: Answer) -> u64 {
     }
 }
 
-fn put_zeros(count: usize) {
-    let mut i = 0;
-    while i < count {
-        put_number(0);
-        i += 1;
+fn put_zeros<W: Write>(out: &mut W, count: usize) -> io::Result<()> {
+    for _ in 0..count {
+        put_number(out, 0)?;
     }
+    Ok(())
 }
 
-fn put_settings(s: Settings) {
-    put_number(s.out);
-    put_number(s.into);
-    put_number(s.ltk);
-    put_number(s.lpo);
+fn put_settings<W: Write>(out: &mut W, s: Settings) -> io::Result<()> {
+    put_number(out, s.out)?;
+    put_number(out, s.into)?;
+    put_number(out, s.ltk)?;
+    put_number(out, s.lpo)
 }
 
-fn put_account(a: Account) {
-    put_number(a.opening);
-    put_number(a.balance);
-    put_number(a.turnover);
-    put_settings(a.settings);
+fn put_account<W: Write>(out: &mut W, a: Account) -> io::Result<()> {
+    put_number(out, a.opening)?;
+    put_number(out, a.balance)?;
+    put_number(out, a.turnover)?;
+    put_settings(out, a.settings)
 }
 
-fn put_slip(s: Slip) {
-    put_number(s.kind);
-    put_number(s.status);
-    put_number(s.check);
-    put_number(s.seat);
-    put_number(s.opening);
-    put_number(s.step);
+fn put_slip<W: Write>(out: &mut W, s: Slip) -> io::Result<()> {
+    put_number(out, s.kind)?;
+    put_number(out, s.status)?;
+    put_number(out, s.check)?;
+    put_number(out, s.seat)?;
+    put_number(out, s.opening)?;
+    put_number(out, s.step)
 }
 
 // An answer: its number, its detail and its values, so many zeros where it has none.
-pub fn tell(answer: Answer, values: usize) {
-    put(b" ->");
-    put_number(number_of(answer));
-    put_number(detail_of(answer));
+pub fn tell<W: Write>(out: &mut W, answer: Answer, values: usize) -> io::Result<()> {
+    out.write_all(b" ->")?;
+    put_number(out, number_of(answer))?;
+    put_number(out, detail_of(answer))?;
     match answer {
-        Answer::Opened(opening) => put_number(opening),
-        Answer::Holds(account) => put_account(account),
-        Answer::Says(slip) => put_slip(slip),
-        _ => put_zeros(values),
+        Answer::Opened(opening) => put_number(out, opening),
+        Answer::Holds(account) => put_account(out, account),
+        Answer::Says(slip) => put_slip(out, slip),
+        _ => put_zeros(out, values),
     }
-}
-
-fn put_byte(b: u8) {
-    io::print_hex(STDOUT_FILENO, b as u64, 2);
 }
 
 // The bytes of a slip's buffer.
-pub fn put_buffer(bytes: &[u8]) {
-    put(b" slip ");
-    let mut i = 0;
-    while i < bytes.len() {
-        put_byte(bytes[i]);
-        i += 1;
+pub fn put_buffer<W: Write>(out: &mut W, bytes: &[u8]) -> io::Result<()> {
+    out.write_all(b" slip ")?;
+    for byte in bytes {
+        write!(out, "{byte:02x}")?;
     }
+    Ok(())
 }
 
 fn is_zero(a: Account) -> bool {
@@ -115,76 +105,74 @@ fn is_zero(a: Account) -> bool {
         & (s.lpo == 0)
 }
 
-fn put_account_row(i: usize, a: Account) {
+fn put_account_row<W: Write>(out: &mut W, i: usize, a: Account) -> io::Result<()> {
     if is_zero(a) {
-        return;
+        return Ok(());
     }
-    put(b"account");
-    put_number(i as u64);
-    put_account(a);
-    put(b"\n");
+    out.write_all(b"account")?;
+    put_number(out, i as u64)?;
+    put_account(out, a)?;
+    out.write_all(b"\n")
 }
 
-fn put_accounts(s: &[u64]) {
+fn put_accounts<W: Write>(out: &mut W, s: &[u64]) -> io::Result<()> {
     if s.len() != SEAT_LONG {
-        return;
+        return Ok(());
     }
-    let mut i = 0;
-    while i < ACCOUNTS {
-        put_account_row(i, account(s, i));
-        i += 1;
+    for i in 0..ACCOUNTS {
+        put_account_row(out, i, account(s, i))?;
     }
+    Ok(())
 }
 
-fn put_identifier(x: Identifier) {
-    put_number(x.first);
-    put_number(x.second);
-    put_number(x.third);
-    put_number(x.fourth);
-    put_number(x.fifth);
+fn put_identifier<W: Write>(out: &mut W, x: Identifier) -> io::Result<()> {
+    put_number(out, x.first)?;
+    put_number(out, x.second)?;
+    put_number(out, x.third)?;
+    put_number(out, x.fourth)?;
+    put_number(out, x.fifth)
 }
 
 // A step's numbers in the order of their places.
-fn put_step(x: Step) {
-    put_number(x.kind);
-    put_number(x.status);
-    put_number(x.check);
-    put_number(x.sender);
-    put_identifier(x.id);
-    put_number(x.uetr.high);
-    put_number(x.uetr.low);
-    put_number(x.created);
-    put_identifier(x.reference);
-    put_number(x.debit);
-    put_number(x.credit);
-    put_number(x.amount);
-    put_number(x.account);
-    put_settings(x.old);
-    put_settings(x.given);
-    put_number(x.receiver);
-    put_number(x.answers);
+fn put_step<W: Write>(out: &mut W, x: Step) -> io::Result<()> {
+    put_number(out, x.kind)?;
+    put_number(out, x.status)?;
+    put_number(out, x.check)?;
+    put_number(out, x.sender)?;
+    put_identifier(out, x.id)?;
+    put_number(out, x.uetr.high)?;
+    put_number(out, x.uetr.low)?;
+    put_number(out, x.created)?;
+    put_identifier(out, x.reference)?;
+    put_number(out, x.debit)?;
+    put_number(out, x.credit)?;
+    put_number(out, x.amount)?;
+    put_number(out, x.account)?;
+    put_settings(out, x.old)?;
+    put_settings(out, x.given)?;
+    put_number(out, x.receiver)?;
+    put_number(out, x.answers)
 }
 
-fn put_step_row(number: u64, x: Step) {
-    put(b"step");
-    put_number(number);
-    put_step(x);
-    put(b"\n");
+fn put_step_row<W: Write>(out: &mut W, number: u64, x: Step) -> io::Result<()> {
+    out.write_all(b"step")?;
+    put_number(out, number)?;
+    put_step(out, x)?;
+    out.write_all(b"\n")
 }
 
 // The first steps of a seat, counted from 1.
-fn put_steps(s: &[u64], count: u64) {
+fn put_steps<W: Write>(out: &mut W, s: &[u64], count: u64) -> io::Result<()> {
     if s.len() != SEAT_LONG {
-        return;
+        return Ok(());
     }
-    let mut k: u64 = 0;
-    while k < STEPS {
+    for k in 0..STEPS {
         if count <= k {
-            return;
+            break;
         }
-        put_step_row(k + 1, step(s, k as usize));
-        k += 1;
+        put_step_row(out, k + 1, step(s, k as usize))?;
     }
+    Ok(())
 }
 
 // The part of a room's numbers that a seat is, empty where there is none.
@@ -199,16 +187,16 @@ pub fn seat_part(numbers: &[u64], seat: u64) -> &[u64] {
 }
 
 // A seat's head, its accounts that are not all zeros, and its steps.
-pub fn dump(s: &[u64]) {
+pub fn dump<W: Write>(out: &mut W, s: &[u64]) -> io::Result<()> {
     if s.len() != SEAT_LONG {
-        return;
+        return Ok(());
     }
     let h = head(s);
-    put(b"head");
-    put_number(h.opening);
-    put_number(h.opened);
-    put_number(h.steps);
-    put(b"\n");
-    put_accounts(s);
-    put_steps(s, h.steps);
+    out.write_all(b"head")?;
+    put_number(out, h.opening)?;
+    put_number(out, h.opened)?;
+    put_number(out, h.steps)?;
+    out.write_all(b"\n")?;
+    put_accounts(out, s)?;
+    put_steps(out, s, h.steps)
 }

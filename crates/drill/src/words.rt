@@ -7,17 +7,12 @@ use layout::PLACES;
 fn find(s: &[u8], from: usize, b: u8) -> usize
     ensures { (result ≤ length s.now) × (from ≤ length s.now → from ≤ result) }
 {
-    let mut i = from;
-    if s.len() < i {
-        return s.len();
-    }
-    while i < s.len() {
+    for i in from..s.len() {
         if s[i] == b {
             return i;
         }
-        i += 1;
     }
-    i
+    s.len()
 }
 
 pub fn line_end(s: &[u8], from: usize) -> usize
@@ -37,10 +32,8 @@ pub fn words_end(s: &[u8], before: usize) -> usize
     ensures { result ≤ length s.now }
 {
     let mut to = word_end(s, 0);
-    let mut k = 0;
-    while k < before {
+    for _ in 0..before {
         to = word_end(s, to + 1);
-        k += 1;
     }
     to
 }
@@ -84,10 +77,8 @@ fn longer(n: u64, digit: u8) -> u64 {
 // The number that digits write, or the highest one where they write a higher one.
 pub fn number(s: &[u8]) -> u64 {
     let mut n: u64 = 0;
-    let mut i = 0;
-    while i < s.len() {
-        n = longer(n, s[i]);
-        i += 1;
+    for b in s {
+        n = longer(n, *b);
     }
     n
 }
@@ -106,14 +97,14 @@ pub fn numbers_in(s: &[u8]) -> Numbers {
     let mut values = [0u64; NUMBERS_MOST];
     let mut count = 0;
     let mut from = word_end(s, 0) + 1;
-    while from < s.len() {
-        if count == NUMBERS_MOST {
-            return Numbers { count, values };
+    for at in 0..NUMBERS_MOST {
+        if s.len() <= from {
+            break;
         }
         let to = word_end(s, from);
-        values[count] = number(part(s, from, to));
+        values[at] = number(part(s, from, to));
         from = to + 1;
-        count += 1;
+        count = at + 1;
     }
     Numbers { count, values }
 }

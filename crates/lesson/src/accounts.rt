@@ -1,8 +1,10 @@
 // What is seen of a seat: its balances before and after a call, how many steps it has, and its last one.
-use crate::show::{put, put_code, put_next, put_number, put_sum};
+use crate::show::{put_code, put_next, put_number, put_sum};
 use directory::Gathered;
 use layout::{ACCOUNTS, PLACES, ROOM_LONG, SEAT_LONG, account, head, seat_in, step};
 use slip::{SEATS, STEPS};
+use std::io;
+use std::io::Write;
 
 // What is seen of the last step: its kind by number, the bank that is to answer it, and the number of the step that it answers. What it lacks is
 // zero, and so is all of it where there is no step.
@@ -42,11 +44,9 @@ fn balances_in(s: &[u64]) -> [u64; ACCOUNTS] {
     if s.len() != SEAT_LONG {
         return balances;
     }
-    let mut i = 0;
-    while i < ACCOUNTS {
+    for i in 0..ACCOUNTS {
         let a = account(s, i);
         balances[i] = a.balance;
-        i += 1;
     }
     balances
 }
@@ -94,48 +94,55 @@ pub fn seen(room: &[u64], seat: u64) -> Sight {
 }
 
 // An account by its number in a seat, with the code of the bank that owns it.
-fn put_name(g: Gathered, i: usize) {
+fn put_name<W: Write>(out: &mut W, g: Gathered, i: usize) -> io::Result<()> {
     let records = g.records;
     let place = i / 2;
     if PLACES <= place {
-        return;
+        return Ok(());
     }
     let owner = records[place];
-    put_next();
-    put_code(owner.code);
-    put(b" account ");
-    put_number((i % 2 + 1) as u64);
-    put(b": ");
+    put_next(out)?;
+    put_code(out, owner.code)?;
+    out.write_all(b" account ")?;
+    put_number(out, (i % 2 + 1) as u64)?;
+    out.write_all(b": ")
 }
 
 // The balances that a call changed.
-pub fn put_changes(g: Gathered, before: [u64; ACCOUNTS], after: [u64; ACCOUNTS]) {
+pub fn put_changes<W: Write>(
+    out: &mut W,
+    g: Gathered,
+    before: [u64; ACCOUNTS],
+    after: [u64; ACCOUNTS],
+) -> io::Result<()> {
     let mut changed = false;
-    let mut i = 0;
-    while i < ACCOUNTS {
+    for i in 0..ACCOUNTS {
         if before[i] != after[i] {
-            put_name(g, i);
-            put_sum(before[i]);
-            put(b" -> ");
-            put_sum(after[i]);
+            put_name(out, g, i)?;
+            put_sum(out, before[i])?;
+            out.write_all(b" -> ")?;
+            put_sum(out, after[i])?;
             changed = true;
         }
-        i += 1;
     }
     if !changed {
-        put_next();
-        put(b"no balance changed");
+        put_next(out)?;
+        out.write_all(b"no balance changed")?;
     }
+    Ok(())
 }
 
 // The balances that are not zero.
-pub fn put_balances(g: Gathered, balances: [u64; ACCOUNTS]) {
-    let mut i = 0;
-    while i < ACCOUNTS {
+pub fn put_balances<W: Write>(
+    out: &mut W,
+    g: Gathered,
+    balances: [u64; ACCOUNTS],
+) -> io::Result<()> {
+    for i in 0..ACCOUNTS {
         if balances[i] != 0 {
-            put_name(g, i);
-            put_sum(balances[i]);
+            put_name(out, g, i)?;
+            put_sum(out, balances[i])?;
         }
-        i += 1;
     }
+    Ok(())
 }

@@ -2,8 +2,9 @@
 // request 9 of document 02.
 ghost use Rattle.std.specs.Prelude.{◌<◌, ◌≤◌};
 
-use crate::show::{part, put, put_number, put_row};
-use check::same;
+use crate::show::{part, put_number, put_row};
+use std::io;
+use std::io::Write;
 use table::Kind;
 
 // How many fields each kind has, of which pacs.008 has the most.
@@ -74,7 +75,7 @@ fn path(place: usize) -> [u8; PATH_WIDE]
 }
 
 fn begins(s: &[u8], front: &[u8]) -> bool {
-    same(part(s, 0, front.len()), front)
+    part(s, 0, front.len()) == front
 }
 
 // The kind that a known message's sheet begins with.
@@ -91,12 +92,12 @@ pub fn kind_in(sheet: &[u8]) -> Kind {
     Kind::Pacs008
 }
 
-pub fn put_kind(kind: Kind) {
+pub fn put_kind<W: Write>(out: &mut W, kind: Kind) -> io::Result<()> {
     match kind {
-        Kind::Pacs008 => put(b"pacs.008"),
-        Kind::Camt050 => put(b"camt.050"),
-        Kind::Pacs028 => put(b"pacs.028"),
-        Kind::Pacs002 => put(b"pacs.002"),
+        Kind::Pacs008 => out.write_all(b"pacs.008"),
+        Kind::Camt050 => out.write_all(b"camt.050"),
+        Kind::Pacs028 => out.write_all(b"pacs.028"),
+        Kind::Pacs002 => out.write_all(b"pacs.002"),
     }
 }
 
@@ -112,18 +113,19 @@ fn first_of(kind: Kind) -> usize
     }
 }
 
-fn put_path(kind: Kind, number: usize) {
+fn put_path<W: Write>(out: &mut W, kind: Kind, number: usize) -> io::Result<()> {
     if number < 1 {
-        return;
+        return Ok(());
     }
     if PACS_008_FIELDS < number {
-        return;
+        return Ok(());
     }
     let place = first_of(kind) + number - 1;
     if place < FIELDS {
         let text = path(place);
-        put_row(&text);
+        put_row(out, &text)?;
     }
+    Ok(())
 }
 
 // Whether a field is the TxSts of a pacs.002.
@@ -137,28 +139,26 @@ fn is_tx_sts(kind: Kind, number: usize) -> bool {
 }
 
 // What can be wrong with a field.
-fn put_fault(kind: Kind, number: usize) {
+fn put_fault<W: Write>(out: &mut W, kind: Kind, number: usize) -> io::Result<()> {
     if is_tx_sts(kind, number) {
-        put(b"): given though GrpSts is ACCP, there twice, or not of its shape");
-        return;
+        return out.write_all(b"): given though GrpSts is ACCP, there twice, or not of its shape");
     }
-    put(b"): missing, there twice, or not of its shape");
+    out.write_all(b"): missing, there twice, or not of its shape")
 }
 
 // The field that a message was refused for by 8.
-pub fn put_field(sheet: &[u8], number: usize) {
+pub fn put_field<W: Write>(out: &mut W, sheet: &[u8], number: usize) -> io::Result<()> {
     if number == 0 {
-        put(
+        return out.write_all(
             b"refused 8, field 0: the message is unknown; it must be a Document that holds one pacs.008, camt.050, pacs.028 or pacs.002",
         );
-        return;
     }
     let kind = kind_in(sheet);
-    put(b"refused 8, field ");
-    put_number(number as u64);
-    put(b" of ");
-    put_kind(kind);
-    put(b" (");
-    put_path(kind, number);
-    put_fault(kind, number);
+    out.write_all(b"refused 8, field ")?;
+    put_number(out, number as u64)?;
+    out.write_all(b" of ")?;
+    put_kind(out, kind)?;
+    out.write_all(b" (")?;
+    put_path(out, kind, number)?;
+    put_fault(out, kind, number)
 }

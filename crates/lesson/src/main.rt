@@ -7,22 +7,27 @@ mod accounts;
 mod done;
 mod expected;
 mod fields;
+mod input;
 mod meanings;
 mod messages;
 mod refusals;
 mod show;
+
+ghost use Rattle.std.specs.Prelude.{◌≡◌, length};
 
 use accounts::seen;
 use class::{behind, no_banks, perform, with_line};
 use directory::Gathered;
 use done::put_done;
 use expected::put_expected;
+use input::read_full;
 use layout::ROOM_LONG;
-use libc::STDIN_FILENO;
 use refusals::{is_refusal, put_refusal};
 use script::{Line, Word, line_end, read_line};
-use show::{part, put, put_line_number};
+use show::{part, put_line_number};
 use slip::SLIP_LONG;
+use std::io;
+use std::io::{BufWriter, Read, Write};
 
 // How many bytes of a script are read.
 const SCRIPT_MOST: usize = 524288;
@@ -35,7 +40,13 @@ fn is_silent(word: Word) -> bool {
 }
 
 // Makes the call of a line and tells how it ended.
-fn call(line: Line, text: &[u8], room: &mut [u64], g: Gathered) {
+fn call<W: Write>(
+    out: &mut W,
+    line: Line,
+    text: &[u8],
+    room: &mut [u64],
+    g: Gathered,
+) -> io::Result<()> {
     let values = line.values;
     let word = line.word;
     let before = seen(room, values[0]);
@@ -43,29 +54,34 @@ fn call(line: Line, text: &[u8], room: &mut [u64], g: Gathered) {
     let answer = perform(room, g, line, text, &mut slip);
     let after = seen(room, values[0]);
     if is_refusal(answer) {
-        put_refusal(answer, word, behind(text, line.rest));
-        return;
+        return put_refusal(out, answer, word, behind(text, line.rest));
     }
-    put_done(line, g, answer, slip, before, after);
+    put_done(out, line, g, answer, slip, before, after)
 }
 
 // Answers a line.
-fn answer(number: u64, line: Line, text: &[u8], room: &mut [u64], g: Gathered) {
+fn answer<W: Write>(
+    out: &mut W,
+    number: u64,
+    line: Line,
+    text: &[u8],
+    room: &mut [u64],
+    g: Gathered,
+) -> io::Result<()> {
     let word = line.word;
     if is_silent(word) {
-        return;
+        return Ok(());
     }
-    put_line_number(number);
+    put_line_number(out, number)?;
     if !line.good {
-        put_expected(word);
-        put(b"\n");
-        return;
+        put_expected(out, word)?;
+        return out.write_all(b"\n");
     }
-    call(line, text, room, g);
-    put(b"\n");
+    call(out, line, text, room, g)?;
+    out.write_all(b"\n")
 }
 
-fn play(s: &[u8], room: &mut [u64]) {
+fn play<W: Write>(out: &mut W, s: &[u8], room: &mut [u64]) -> io::Result<()> {
     let mut g = no_banks();
     let mut number = 1;
     let mut from = 0;
@@ -74,18 +90,41 @@ fn play(s: &[u8], room: &mut [u64]) {
         let text = part(s, from, to);
         let line = read_line(text);
         g = with_line(g, line);
-        answer(number, line, text, room, g);
+        answer(out, number, line, text, room, g)?;
         number += 1;
         from = to + 1;
     }
+    Ok(())
 }
 
-fn main() {
-    let mut buffer = [0u8; SCRIPT_MOST];
-    let mut room = [0u64; ROOM_LONG];
-    let n = io::read_full(STDIN_FILENO, &mut buffer);
-    play(&buffer[..n], &mut room);
+// Room for a script. It stands apart so that a proof sees its length alone, and not each of its bytes.
+fn no_script() -> [u8; SCRIPT_MOST]
+    ensures { length result ≡ 524288 }
+{
+    [0; SCRIPT_MOST]
+}
+
+// Plays the script that stands on the input.
+fn run<R: Read, W: Write>(
+    input: &mut R,
+    out: &mut W,
+    buffer: &mut [u8],
+    room: &mut [u64],
+) -> io::Result<()> {
+    let n = read_full(input, buffer)?;
+    play(out, &buffer[..n], room)?;
     if n == SCRIPT_MOST {
-        put(b"the script has 524288 bytes or more; what stands after them was not played\n");
+        out.write_all(
+            b"the script has 524288 bytes or more; what stands after them was not played\n",
+        )?;
     }
+    Ok(())
+}
+
+fn main(rt: HostRuntime) -> io::Result<()> {
+    let mut buffer = no_script();
+    let mut room = [0u64; ROOM_LONG];
+    let mut out = BufWriter::new(rt.alloc(), rt.stdout())?;
+    run(&mut rt.stdin(), &mut out, &mut buffer, &mut room)?;
+    out.flush()
 }

@@ -1,7 +1,9 @@
 // What each check means, in a pupil's words. docs/CHECKS.md has the rules in full.
 ghost use Rattle.std.specs.Prelude.{◌<◌};
 
-use crate::show::{put, put_number, put_row};
+use crate::show::{put_number, put_row};
+use std::io;
+use std::io::Write;
 use table::{CHECKS_MOST, Kind, iso_code, sep_code};
 
 // How many bytes the row of a check has.
@@ -55,28 +57,28 @@ fn row(place: usize) -> [u8; MEANING_WIDE]
 }
 
 // What it means that a check fails.
-pub fn put_meaning(check: u64) {
+pub fn put_meaning<W: Write>(out: &mut W, check: u64) -> io::Result<()> {
     if check == 0 {
-        return;
+        return Ok(());
     }
     if CHECKS_MOST < check {
-        return;
+        return Ok(());
     }
     let text = row((check - 1) as usize);
-    put_row(&text);
+    put_row(out, &text)
 }
 
 // A check with its codes. A camt.050 has no ISO code.
-pub fn put_check(kind: Kind, check: u64) {
+pub fn put_check<W: Write>(out: &mut W, kind: Kind, check: u64) -> io::Result<()> {
     let sep = sep_code(check);
     let iso = iso_code(kind, check);
-    put(b"check ");
-    put_number(check);
-    put(b" (SEP ");
-    put(&sep);
+    out.write_all(b"check ")?;
+    put_number(out, check)?;
+    out.write_all(b" (SEP ")?;
+    out.write_all(&sep)?;
     if iso[0] != b' ' {
-        put(b", ISO ");
-        put(&iso);
+        out.write_all(b", ISO ")?;
+        out.write_all(&iso)?;
     }
-    put(b")");
+    out.write_all(b")")
 }

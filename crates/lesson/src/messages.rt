@@ -2,10 +2,12 @@
 use crate::accounts::{Sight, put_changes};
 use crate::fields::put_kind;
 use crate::meanings::{put_check, put_meaning};
-use crate::show::{put, put_bytes, put_code, put_next, put_number};
+use crate::show::{put_bytes, put_code, put_next, put_number};
 use centre::{Answer, read_slip};
 use directory::Gathered;
 use slip::{SLIP_LONG, Slip};
+use std::io;
+use std::io::Write;
 use table::Kind;
 
 // The kinds and statuses that are told in a way of their own, by their numbers on a slip.
@@ -20,41 +22,46 @@ const ACCC: u64 = 1;
 const WAITS: u64 = 3;
 
 // What a step was, by its number among the kinds of steps.
-fn put_step_kind(kind: u64) {
+fn put_step_kind<W: Write>(out: &mut W, kind: u64) -> io::Result<()> {
     match kind {
-        1 => put(b"a pacs.008"),
-        2 => put(b"a camt.050"),
-        3 => put(b"a pacs.028"),
-        4 => put(b"a pacs.002"),
-        _ => put(b"a set"),
+        1 => out.write_all(b"a pacs.008"),
+        2 => out.write_all(b"a camt.050"),
+        3 => out.write_all(b"a pacs.028"),
+        4 => out.write_all(b"a pacs.002"),
+        _ => out.write_all(b"a set"),
     }
 }
 
-fn put_moved(g: Gathered, before: Sight, after: Sight) {
+fn put_moved<W: Write>(out: &mut W, g: Gathered, before: Sight, after: Sight) -> io::Result<()> {
     let were = before.balances;
     let are = after.balances;
-    put_changes(g, were, are);
+    put_changes(out, g, were, are)
 }
 
 // The transfer of a step, and what has become of it.
-fn put_transfer(step: u64, fate: &[u8]) {
-    put_next();
-    put(b"the transfer of step ");
-    put_number(step);
-    put(fate);
+fn put_transfer<W: Write>(out: &mut W, step: u64, fate: &[u8]) -> io::Result<()> {
+    put_next(out)?;
+    out.write_all(b"the transfer of step ")?;
+    put_number(out, step)?;
+    out.write_all(fate)
 }
 
 // A step that was taken back; the transfer that it answered waits again.
-pub fn put_taken_back(g: Gathered, before: Sight, after: Sight) {
+pub fn put_taken_back<W: Write>(
+    out: &mut W,
+    g: Gathered,
+    before: Sight,
+    after: Sight,
+) -> io::Result<()> {
     let last = before.last;
-    put(b"step ");
-    put_number(before.steps);
-    put(b" is taken back; it was ");
-    put_step_kind(last.kind);
+    out.write_all(b"step ")?;
+    put_number(out, before.steps)?;
+    out.write_all(b" is taken back; it was ")?;
+    put_step_kind(out, last.kind)?;
     if last.answers != 0 {
-        put_transfer(last.answers, b" waits again");
+        put_transfer(out, last.answers, b" waits again")?;
     }
-    put_moved(g, before, after);
+    put_moved(out, g, before, after)
 }
 
 // A slip's kind by its number.
@@ -67,12 +74,12 @@ fn kind_of(number: u64) -> Kind {
     }
 }
 
-fn put_status(status: u64) {
+fn put_status<W: Write>(out: &mut W, status: u64) -> io::Result<()> {
     match status {
-        0 => put(b"PDNG"),
-        1 => put(b"ACCC"),
-        2 => put(b"RJCT"),
-        _ => put(b"waits"),
+        0 => out.write_all(b"PDNG"),
+        1 => out.write_all(b"ACCC"),
+        2 => out.write_all(b"RJCT"),
+        _ => out.write_all(b"waits"),
     }
 }
 
@@ -90,40 +97,40 @@ fn told_of(s: Slip) -> Kind {
 }
 
 // How a message ended, with its check and what that means.
-fn put_end(s: Slip) {
+fn put_end<W: Write>(out: &mut W, s: Slip) -> io::Result<()> {
     let kind = kind_of(s.kind);
-    put_kind(kind);
-    put(b": ");
+    put_kind(out, kind)?;
+    out.write_all(b": ")?;
     if is_telling(s) {
-        put(b"the pacs.008 asked after ended with ");
+        out.write_all(b"the pacs.008 asked after ended with ")?;
     }
-    put_status(s.status);
+    put_status(out, s.status)?;
     if s.check == 0 {
-        return;
+        return Ok(());
     }
     let told = told_of(s);
-    put(b" by ");
-    put_check(told, s.check);
-    put_next();
-    put_meaning(s.check);
+    out.write_all(b" by ")?;
+    put_check(out, told, s.check)?;
+    put_next(out)?;
+    put_meaning(out, s.check)
 }
 
-fn put_slip(s: Slip) {
-    put_end(s);
-    put_next();
-    put(b"seat ");
-    put_number(s.seat);
-    put(b", opening number ");
-    put_number(s.opening);
-    put(b", step ");
-    put_number(s.step);
+fn put_slip<W: Write>(out: &mut W, s: Slip) -> io::Result<()> {
+    put_end(out, s)?;
+    put_next(out)?;
+    out.write_all(b"seat ")?;
+    put_number(out, s.seat)?;
+    out.write_all(b", opening number ")?;
+    put_number(out, s.opening)?;
+    out.write_all(b", step ")?;
+    put_number(out, s.step)
 }
 
 // The slip that was read.
-pub fn put_said(answer: Answer) {
+pub fn put_said<W: Write>(out: &mut W, answer: Answer) -> io::Result<()> {
     match answer {
-        Answer::Says(slip) => put_slip(slip),
-        _ => {}
+        Answer::Says(slip) => put_slip(out, slip),
+        _ => Ok(()),
     }
 }
 
@@ -133,53 +140,66 @@ fn is_moved(s: Slip) -> bool {
 }
 
 // How a message ended, and of a transfer that waits for whom.
-fn put_result(s: Slip, after: Sight) {
+fn put_result<W: Write>(out: &mut W, s: Slip, after: Sight) -> io::Result<()> {
     let last = after.last;
-    put_end(s);
+    put_end(out, s)?;
     if is_moved(s) {
-        put(b", carried out");
+        out.write_all(b", carried out")?;
     }
     if s.status == WAITS {
-        put(b" for the answer of ");
-        put_code(last.receiver);
+        out.write_all(b" for the answer of ")?;
+        put_code(out, last.receiver)?;
     }
+    Ok(())
 }
 
 // What an answer did to the transfer of a step, 0 for none.
-fn put_answered(s: Slip, step: u64) {
+fn put_answered<W: Write>(out: &mut W, s: Slip, step: u64) -> io::Result<()> {
     if step == 0 {
-        put_next();
-        put(b"no transfer was touched");
-        return;
+        put_next(out)?;
+        return out.write_all(b"no transfer was touched");
     }
     if s.status == ACCC {
-        put_transfer(step, b" is settled");
-        return;
+        return put_transfer(out, step, b" is settled");
     }
-    put_transfer(step, b" is rejected by this check");
+    put_transfer(out, step, b" is rejected by this check")
 }
 
-fn put_message(s: Slip, bytes: [u8; SLIP_LONG], g: Gathered, before: Sight, after: Sight) {
+fn put_message<W: Write>(
+    out: &mut W,
+    s: Slip,
+    bytes: [u8; SLIP_LONG],
+    g: Gathered,
+    before: Sight,
+    after: Sight,
+) -> io::Result<()> {
     let last = after.last;
-    put_result(s, after);
-    put_next();
-    put(b"step ");
-    put_number(s.step);
-    put(b", slip");
-    put_bytes(bytes);
+    put_result(out, s, after)?;
+    put_next(out)?;
+    out.write_all(b"step ")?;
+    put_number(out, s.step)?;
+    out.write_all(b", slip")?;
+    put_bytes(out, bytes)?;
     if s.kind == PACS_002 {
-        put_answered(s, last.answers);
+        put_answered(out, s, last.answers)?;
     }
     if is_moved(s) {
-        put_moved(g, before, after);
+        put_moved(out, g, before, after)?;
     }
+    Ok(())
 }
 
 // What became of a message, read off its slip.
-pub fn put_submitted(bytes: [u8; SLIP_LONG], g: Gathered, before: Sight, after: Sight) {
+pub fn put_submitted<W: Write>(
+    out: &mut W,
+    bytes: [u8; SLIP_LONG],
+    g: Gathered,
+    before: Sight,
+    after: Sight,
+) -> io::Result<()> {
     let reading = read_slip(&bytes);
     match reading {
-        Answer::Says(s) => put_message(s, bytes, g, before, after),
-        _ => {}
+        Answer::Says(s) => put_message(out, s, bytes, g, before, after),
+        _ => Ok(()),
     }
 }

@@ -1,9 +1,11 @@
 // The refusals 1 to 12 in a pupil's words. Their numbers are those of document 01, "Calls and refusals".
 use crate::fields::{kind_in, put_field};
 use crate::meanings::{put_check, put_meaning};
-use crate::show::{put, put_next, put_number};
+use crate::show::{put_next, put_number};
 use centre::Answer;
 use script::Word;
+use std::io;
+use std::io::Write;
 
 pub fn is_refusal(answer: Answer) -> bool {
     match answer {
@@ -16,71 +18,80 @@ pub fn is_refusal(answer: Answer) -> bool {
 }
 
 // 3: what is wrong with a ticket, or with the seat of an opening.
-fn put_no_ticket(word: Word) {
+fn put_no_ticket<W: Write>(out: &mut W, word: Word) -> io::Result<()> {
     match word {
-        Word::Open => put(b"refused 3: there are only the seats 0 to 11"),
-        _ => put(
+        Word::Open => out.write_all(b"refused 3: there are only the seats 0 to 11"),
+        _ => out.write_all(
             b"refused 3: the seat is above 11 or closed, or its opening number is another one",
         ),
     }
 }
 
 // 6: which values the call looks at.
-fn put_bad_number(word: Word) {
-    put(b"refused 6: ");
+fn put_bad_number<W: Write>(out: &mut W, word: Word) -> io::Result<()> {
+    out.write_all(b"refused 6: ")?;
     match word {
-        Word::Open => put(
+        Word::Open => out.write_all(
             b"not two sums for each bank, or a sum too high, or money for a bank that owns no accounts",
         ),
-        Word::Set => put(b"no listed owner, no account 1 or 2, or a limit too high"),
-        Word::Submit => put(b"no day of the years 2000 to 2099, or a sender above 999999"),
-        _ => put(b"no listed owner, or no account 1 or 2"),
+        Word::Set => out.write_all(b"no listed owner, no account 1 or 2, or a limit too high"),
+        Word::Submit => out.write_all(
+            b"no day of the years 2000 to 2099, or a sender above 999999",
+        ),
+        _ => out.write_all(b"no listed owner, or no account 1 or 2"),
     }
 }
 
-fn put_ill_formed(place: usize) {
-    put(b"refused 7 at place ");
-    put_number(place as u64);
-    put(
+fn put_ill_formed<W: Write>(out: &mut W, place: usize) -> io::Result<()> {
+    out.write_all(b"refused 7 at place ")?;
+    put_number(out, place as u64)?;
+    out.write_all(
         b": the sheet is not well formed; before that place all is right, there it goes wrong or ends too soon",
-    );
+    )
 }
 
 // 12: the check, with the codes of the sheet's kind.
-fn put_not_taken(check: u64, sheet: &[u8]) {
-    put(b"refused 12, ");
-    put_check(kind_in(sheet), check);
-    put(b": the sender gets no slip");
-    put_next();
-    put_meaning(check);
+fn put_not_taken<W: Write>(out: &mut W, check: u64, sheet: &[u8]) -> io::Result<()> {
+    out.write_all(b"refused 12, ")?;
+    put_check(out, kind_in(sheet), check)?;
+    out.write_all(b": the sender gets no slip")?;
+    put_next(out)?;
+    put_meaning(out, check)
 }
 
 // A refusal that says nothing beside its number.
-fn put_plain(answer: Answer) {
+fn put_plain<W: Write>(out: &mut W, answer: Answer) -> io::Result<()> {
     match answer {
-        Answer::RoomUnfit => put(b"refused 1: the numbers of the room are not right"),
-        Answer::DirectoryUnfit => put(
+        Answer::RoomUnfit => out.write_all(b"refused 1: the numbers of the room are not right"),
+        Answer::DirectoryUnfit => out.write_all(
             b"refused 2: the list of banks is not right: 1 to 16 banks, codes rising, each branch and provider under a listed owner",
         ),
-        Answer::AlreadyOpen => put(b"refused 4: the seat is open already"),
-        Answer::NoOpeningLeft => put(
+        Answer::AlreadyOpen => out.write_all(b"refused 4: the seat is open already"),
+        Answer::NoOpeningLeft => out.write_all(
             b"refused 5: the seat was opened 65535 times, and has no opening number left",
         ),
-        Answer::JournalFull => put(b"refused 9: the journal is full, it holds 24 steps"),
-        Answer::NothingToTakeBack => put(b"refused 10: there is no step to take back"),
-        Answer::NoSlip => put(b"refused 11: these are not the bytes of a slip, six or five"),
-        _ => {}
+        Answer::JournalFull => out.write_all(b"refused 9: the journal is full, it holds 24 steps"),
+        Answer::NothingToTakeBack => out.write_all(b"refused 10: there is no step to take back"),
+        Answer::NoSlip => out.write_all(
+            b"refused 11: these are not the bytes of a slip, six or five",
+        ),
+        _ => Ok(()),
     }
 }
 
 // A refused call of a word, with the sheet that it was made with.
-pub fn put_refusal(answer: Answer, word: Word, sheet: &[u8]) {
+pub fn put_refusal<W: Write>(
+    out: &mut W,
+    answer: Answer,
+    word: Word,
+    sheet: &[u8],
+) -> io::Result<()> {
     match answer {
-        Answer::NoTicket => put_no_ticket(word),
-        Answer::BadNumber => put_bad_number(word),
-        Answer::IllFormed(place) => put_ill_formed(place),
-        Answer::BadField(number) => put_field(sheet, number),
-        Answer::NotTaken(check) => put_not_taken(check, sheet),
-        _ => put_plain(answer),
+        Answer::NoTicket => put_no_ticket(out, word),
+        Answer::BadNumber => put_bad_number(out, word),
+        Answer::IllFormed(place) => put_ill_formed(out, place),
+        Answer::BadField(number) => put_field(out, sheet, number),
+        Answer::NotTaken(check) => put_not_taken(out, check, sheet),
+        _ => put_plain(out, answer),
     }
 }

@@ -1,7 +1,8 @@
 // What is put on the page: texts and parts of them, numbers, sums, codes, bytes.
 use class::trimmed;
-use libc::STDOUT_FILENO;
 use slip::SLIP_LONG;
+use std::io;
+use std::io::Write;
 
 // How wide the number of a line is, the hryvnias of a sum in a column, and the code of a bank.
 const NUMBER_WIDE: usize = 4;
@@ -21,17 +22,13 @@ pub fn part(s: &[u8], from: usize, to: usize) -> &[u8] {
     &s[from..to]
 }
 
-pub fn put(text: &[u8]) {
-    io::write_all(STDOUT_FILENO, text);
-}
-
-pub fn put_number(n: u64) {
-    io::print_decimal(STDOUT_FILENO, n);
+pub fn put_number<W: Write>(out: &mut W, n: u64) -> io::Result<()> {
+    write!(out, "{n}")
 }
 
 // A text without the blanks that fill its row of a table.
-pub fn put_row(text: &[u8]) {
-    put(trimmed(text));
+pub fn put_row<W: Write>(out: &mut W, text: &[u8]) -> io::Result<()> {
+    out.write_all(trimmed(text))
 }
 
 // How many digits a number has.
@@ -46,78 +43,57 @@ fn digits(n: u64) -> usize {
 }
 
 // A sign so often as a text of one width lacks to another.
-fn fill(sign: &[u8], width: usize, used: usize) {
-    let mut i = used;
-    while i < width {
-        put(sign);
-        i += 1;
+fn fill<W: Write>(out: &mut W, sign: &[u8], width: usize, used: usize) -> io::Result<()> {
+    for _ in used..width {
+        out.write_all(sign)?;
     }
+    Ok(())
 }
 
 // The number of a line, which begins its answer.
-pub fn put_line_number(n: u64) {
-    fill(b" ", NUMBER_WIDE, digits(n));
-    put_number(n);
-    put(b"  ");
+pub fn put_line_number<W: Write>(out: &mut W, n: u64) -> io::Result<()> {
+    fill(out, b" ", NUMBER_WIDE, digits(n))?;
+    put_number(out, n)?;
+    out.write_all(b"  ")
 }
 
 // A further line of an answer.
-pub fn put_next() {
-    put(b"\n      ");
+pub fn put_next<W: Write>(out: &mut W) -> io::Result<()> {
+    out.write_all(b"\n      ")
 }
 
 // A sum of kopecks as 500.00.
-pub fn put_sum(n: u64) {
-    put_number(n / 100);
-    put(b".");
-    put_number(n / 10 % 10);
-    put_number(n % 10);
+pub fn put_sum<W: Write>(out: &mut W, n: u64) -> io::Result<()> {
+    write!(out, "{}.{:02}", n / 100, n % 100)
 }
 
 // The same at the right of a column.
-pub fn put_sum_right(n: u64) {
-    fill(b" ", HRYVNIAS_WIDE, digits(n / 100));
-    put_sum(n);
+pub fn put_sum_right<W: Write>(out: &mut W, n: u64) -> io::Result<()> {
+    fill(out, b" ", HRYVNIAS_WIDE, digits(n / 100))?;
+    put_sum(out, n)
 }
 
 // What a sum has over another, which may be below zero.
-pub fn put_difference_right(n: u64, less: u64) {
+pub fn put_difference_right<W: Write>(out: &mut W, n: u64, less: u64) -> io::Result<()> {
     if less <= n {
-        put_sum_right(n - less);
-        return;
+        return put_sum_right(out, n - less);
     }
     let below = less - n;
-    fill(b" ", HRYVNIAS_WIDE - 1, digits(below / 100));
-    put(b"-");
-    put_sum(below);
+    fill(out, b" ", HRYVNIAS_WIDE - 1, digits(below / 100))?;
+    out.write_all(b"-")?;
+    put_sum(out, below)
 }
 
 // The code of a bank, six digits.
-pub fn put_code(code: u64) {
-    fill(b"0", CODE_WIDE, digits(code));
-    put_number(code);
+pub fn put_code<W: Write>(out: &mut W, code: u64) -> io::Result<()> {
+    fill(out, b"0", CODE_WIDE, digits(code))?;
+    put_number(out, code)
 }
 
-// A half byte as the documents write it.
-fn put_half(n: u8) {
-    let signs = *b"0123456789ABCDEF";
-    let k = (n % 16) as usize;
-    let sign = [signs[k]];
-    put(&sign);
-}
-
-fn put_byte(b: u8) {
-    put(b" ");
-    put_half(b / 16);
-    put_half(b);
-}
-
-// The bytes of a slip.
-pub fn put_bytes(slip: [u8; SLIP_LONG]) {
-    put_byte(slip[0]);
-    put_byte(slip[1]);
-    put_byte(slip[2]);
-    put_byte(slip[3]);
-    put_byte(slip[4]);
-    put_byte(slip[5]);
+// The bytes of a slip, each as two hexadecimal digits in capitals.
+pub fn put_bytes<W: Write>(out: &mut W, slip: [u8; SLIP_LONG]) -> io::Result<()> {
+    for byte in slip {
+        write!(out, " {byte:02X}")?;
+    }
+    Ok(())
 }
