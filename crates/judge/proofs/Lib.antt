@@ -1,8 +1,6 @@
 pub mod Answering
-pub mod Asking
 pub mod Ends
 pub mod Holders
-pub mod Looking
 pub mod Lookups
 pub mod Movements
 pub mod Orders

@@ -1,7 +1,6 @@
 -- Of each public function: no second answer satisfies its contract.
 -- Assumes nothing.
-use Rattle.shape.proofs.Single.{Settled, SettledWalked, one-clause, by-equation}
-use Rattle.judge.specs.declared.case.Looked.{Looked}
+use Rattle.shape.proofs.Single.{Settled, by-equation}
 use Rattle.judge.proofs.case.case_from.Kinds as case-from-kinds
 use Rattle.judge.proofs.case.case_from.Reads as case-from-reads
 use Rattle.judge.proofs.case.case_of.Kinds as case-of-kinds
@@ -20,7 +19,8 @@ use Rattle.judge.proofs.records.asked_in.Kinds as asked-in-kinds
 use Rattle.judge.proofs.records.asked_in.Reads as asked-in-reads
 use Rattle.judge.proofs.records.look_among.Kinds as look-among-kinds
 use Rattle.judge.proofs.records.look_among.Reads as look-among-reads
-use Rattle.judge.specs.contracts.records.look_up as look-up-contract
+use Rattle.judge.proofs.records.look_up.Kinds as look-up-kinds
+use Rattle.judge.proofs.records.look_up.Reads as look-up-reads
 
 pub case-from : Settled _ case-from-kinds.ps case-from-kinds.r case-from-reads.Post
 case-from κs a x y e f = by-equation
@@ -46,9 +46,8 @@ asked_in κs a x y e f = by-equation
 pub look-among : Settled _ look-among-kinds.ps look-among-kinds.r look-among-reads.Post
 look-among κs a x y e f = by-equation
 
--- of the one that takes the lent directory, whose proof is a walk: by its own clauses
-pub look_up : SettledWalked look-up-contract.ended (λ M. look-up-contract.clauses) Looked (λ κs x e. x)
-look_up M 𝓤 𝓛 mem run κs a g x y e f = one-clause 𝓤 by-equation
+pub look_up : Settled _ look-up-kinds.ps look-up-kinds.r look-up-reads.Post
+look_up κs a x y e f = by-equation
 
 pub step_by : Settled _ step-by-kinds.ps step-by-kinds.r step-by-reads.Post
 step_by κs a x y e f = by-equation

@@ -101,6 +101,7 @@ pub fn credit_code(asked: Asked, instructed: Found) -> Value
 }
 
 // Looks up in a lent directory, by its thin search, all that was asked for a sender.
+#[tactic(auto, unfolding(crate::specs::Records::looked_for))]
 pub fn look_up(dir: &[Participant], sender: u64, asked: Asked) -> Looked
     ensures { result ≡ looked_for dir.now sender asked }
 {

@@ -13,8 +13,7 @@ enum-known-payment c = search rules
 
 result-now-requires : tie.Need-result_now-requires
 result-now-requires c κs =
-    let start : tie.Start = c.before.before.before.before in
-    (start.requires.0, start.requires.1, ltb-true _ steps (sym (ap place_fits c.in-Of.is) ∙ start.requires.2))
+    (c.requires.0, c.requires.1, ltb-true _ steps (sym (ap place_fits c.in-Of.is) ∙ c.requires.2))
 
 enum_told : tie.Need-enum_told-1
 enum_told c = search rules
