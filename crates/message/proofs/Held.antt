@@ -100,9 +100,9 @@ module _ (s : List ℕ) (count start : ℕ) where
     unfolding is_good
     good-missing e = rw (held-missing s count start e)
 
-    pub good-doubled : (count ≡ 0 → ⊥) → (count ≡ 1 → ⊥) → false ≡ is_good optional shape ccy (held_at s count start)
+    pub good_doubled : (count ≡ 0 → ⊥) → (count ≡ 1 → ⊥) → false ≡ is_good optional shape ccy (held_at s count start)
     unfolding is_good
-    good-doubled p q = rw (held-doubled s count start p q)
+    good_doubled p q = rw (held-doubled s count start p q)
 
   -- an element that stands once, by the places of its parts
   module _ (p : Parts) (e : p ≡ parts_of s start) (one : count ≡ 1) where

@@ -110,6 +110,7 @@ pub fn goes_with(
 }
 
 // Whether a field is good whose path is counted so often and starts there.
+#[tactic(auto, using(crate::proofs::Held::good_doubled))]
 pub fn is_good(s: &[u8], e: Entry, count: usize, start: usize) -> bool
     ensures { result ≡ is_good e.optional e.shape e.ccy (held_at s.now count start) }
 {
