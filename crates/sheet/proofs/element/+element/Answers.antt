@@ -89,7 +89,16 @@ pub element-child-requires : goal.element-child-requires
 element-child-requires t c =
     let q = held t (goal.at.element-child-requires t c).Else-not-may_hold in (
       omega arith,
-      (omega arith, c.loop-child.invariant.1, c.requires.2, omega arith, omega arith, c.loop-child.invariant.3, c.loop-child.invariant.4, c.loop-child.invariant.5),
+      (
+        omega arith,
+        c.loop-child.invariant.1,
+        c.requires.2,
+        omega arith,
+        omega arith,
+        c.loop-child.invariant.3,
+        c.loop-child.invariant.4,
+        c.loop-child.invariant.5,
+      ),
     )
 
 pub returns-then-not-child : goal.returns-then-not-child
