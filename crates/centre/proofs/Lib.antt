@@ -2,11 +2,7 @@ pub mod First
 pub mod Joined
 pub mod Judged
 pub mod LentDirectories
-pub mod LentFits
 pub mod LentFound
-pub mod LentSheets
-pub mod LentSubmits
-pub mod LentWalks
 pub mod Listed
 pub mod Passes
 pub mod Refusals

@@ -4,7 +4,7 @@
 use mathlib.Core.Path.{◌≡◌}
 use mathlib.Core.List.{List}
 use Prim.Native.Nat.{ℕ}
-use Rattle.shape.proofs.Single.{Settled, SettledWith, SettledWalked, one-clause, two-clauses, three-clauses, by-equation}
+use Rattle.shape.proofs.Single.{Settled, SettledWith, by-equation}
 use Rattle.centre.specs.declared.Answer.{Answer}
 use Rattle.centre.specs.Answers.{Told, told}
 use Rattle.centre.proofs.Told.{told-one}
@@ -34,10 +34,14 @@ use Rattle.centre.proofs.slips.write_slip.Kinds as write-slip-kinds
 use Rattle.centre.proofs.slips.write_slip.Reads as write-slip-reads
 use Rattle.centre.proofs.slips.read_slip.Kinds as read-slip-kinds
 use Rattle.centre.proofs.slips.read_slip.Reads as read-slip-reads
-use Rattle.centre.specs.contracts.lent.open_seat as open-seat-contract
-use Rattle.centre.specs.contracts.lent.set_account as set-account-contract
-use Rattle.centre.specs.contracts.lent.read_account as read-account-contract
-use Rattle.centre.specs.contracts.lent.submit_sheet as submit-sheet-contract
+use Rattle.centre.proofs.lent.open_seat.Kinds as open-seat-kinds
+use Rattle.centre.proofs.lent.open_seat.Reads as open-seat-reads
+use Rattle.centre.proofs.lent.set_account.Kinds as set-account-kinds
+use Rattle.centre.proofs.lent.set_account.Reads as set-account-reads
+use Rattle.centre.proofs.lent.read_account.Kinds as read-account-kinds
+use Rattle.centre.proofs.lent.read_account.Reads as read-account-reads
+use Rattle.centre.proofs.lent.submit_sheet.Kinds as submit-sheet-kinds
+use Rattle.centre.proofs.lent.submit_sheet.Reads as submit-sheet-reads
 
 -- a contract that says what is told of the answer settles the answer
 pub by-told : {t : Told} (x y : Answer) → told x ≡ t → told y ≡ t → x ≡ y
@@ -94,18 +98,18 @@ write-slip κs a x y e f = by-told-and-left x y
 pub read-slip : Settled _ read-slip-kinds.ps read-slip-kinds.r read-slip-reads.Post
 read-slip κs a x y e f = by-told x y
 
--- of the calls over a lent slice of records, whose proofs are walks: by their own clauses, the answer and the room at exit
-pub open-seat : SettledWalked open-seat-contract.ended (λ M. open-seat-contract.clauses) (Answer × List ℕ) (λ κs x e. (x, e.0.now))
-open-seat M 𝓤 𝓛 mem run κs a g x y e f = two-clauses 𝓤 (λ p q. two (by-told x y p.0 q.0) (by-equation p.1 q.1))
+-- of the calls over a lent slice of records
+pub open-seat : SettledWith _ open-seat-kinds.ps open-seat-kinds.r open-seat-reads.Post (List ℕ) (λ κs e. e.0.now)
+open-seat κs a x y e f = by-told-and-left x y
 
-pub set-account : SettledWalked set-account-contract.ended (λ M. set-account-contract.clauses) (Answer × List ℕ) (λ κs x e. (x, e.0.now))
-set-account M 𝓤 𝓛 mem run κs a g x y e f = two-clauses 𝓤 (λ p q. two (by-told x y p.0 q.0) (by-equation p.1 q.1))
+pub set-account : SettledWith _ set-account-kinds.ps set-account-kinds.r set-account-reads.Post (List ℕ) (λ κs e. e.0.now)
+set-account κs a x y e f = by-told-and-left x y
 
-pub read-account : SettledWalked read-account-contract.ended (λ M. read-account-contract.clauses) Answer (λ κs x e. x)
-read-account M 𝓤 𝓛 mem run κs a g x y e f = one-clause 𝓤 (by-told x y)
+pub read-account : Settled _ read-account-kinds.ps read-account-kinds.r read-account-reads.Post
+read-account κs a x y e f = by-told x y
 
 -- and of this one the buffer at exit too
-pub submit-sheet : SettledWalked submit-sheet-contract.ended (λ M. submit-sheet-contract.clauses) (Answer × (List ℕ × List ℕ))
-    (λ κs x e. (x, (e.0.now, e.1.1.1.1.1.1.0.now)))
-submit-sheet M 𝓤 𝓛 mem run κs a g x y e f =
-    three-clauses 𝓤 (λ p q. two (by-told x y p.0 q.0) (two (by-equation p.1.0 q.1.0) (by-equation p.1.1 q.1.1)))
+pub submit-sheet : SettledWith _ submit-sheet-kinds.ps submit-sheet-kinds.r submit-sheet-reads.Post (List ℕ × List ℕ)
+    (λ κs e. (e.0.now, e.1.1.1.1.1.1.0.now))
+submit-sheet κs a x y e f p q =
+    (by-told x y p.0 q.0, two (by-equation p.1.0 q.1.0) (by-equation p.1.1 q.1.1))

@@ -4,17 +4,17 @@ use borrow.Author.Rules.{rules}
 use Rattle.centre.proofs.calls.lay_out.Statement.{statement}
 use Rattle.centre.proofs.calls.lay_out.Tie as tie
 
-returns : tie.Need-returns
-returns c = lay-refused c.before.before.args.room.now c.if1.true
+returns : tie.Need-returns-then-room-ne-ROOM_LONG
+returns c = lay-refused c.args.room.now c.if-room-ne-ROOM_LONG.true
 
 clear-requires : tie.Need-clear-requires
 clear-requires c κs = tt
 
-same_length : tie.Need-same-length
+same_length : tie.Need-shape_of-room
 same_length c = search rules
 
-returns-2 : tie.Need-returns-2
-returns-2 c = lay_done c.before.before.before.before.before.before.args.room.now c.before.before.before.before.if1.false c.before.before.clear.new.0 c.before.before.clear.ensures
+returns-2 : tie.Need-returns
+returns-2 c = lay_done c.args.room.now c.if-room-ne-ROOM_LONG.false c.clear.new.s c.clear.ensures
 
-pub lay-out-spec : {M : Type 1} → statement M
-lay-out-spec = tie.close (tie.spec returns clear-requires same_length returns-2)
+pub lay_out_spec : {M : Type 1} → statement M
+lay_out_spec = tie.close (tie.spec returns clear-requires same_length returns-2)

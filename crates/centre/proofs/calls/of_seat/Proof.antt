@@ -5,57 +5,57 @@ use borrow.Author.Rules.{rules}
 use Rattle.centre.proofs.calls.of_seat.Statement.{statement}
 use Rattle.centre.proofs.calls.of_seat.Tie as tie
 
-enum_told : tie.Need-enum-told
+enum_told : tie.Need-enum_told-1
 enum_told c = search rules
 
-enum-told-2 : tie.Need-enum-told-2
+enum-told-2 : tie.Need-enum_told-in-NoTicket
 enum-told-2 c = search rules
 
-enum-told-3 : tie.Need-enum-told-3
+enum-told-3 : tie.Need-enum_told-in-AlreadyOpen
 enum-told-3 c = search rules
 
-enum-told-4 : tie.Need-enum-told-4
+enum-told-4 : tie.Need-enum_told-in-NoOpeningLeft
 enum-told-4 c = search rules
 
-enum-told-5 : tie.Need-enum-told-5
+enum-told-5 : tie.Need-enum_told-in-BadNumber
 enum-told-5 c = search rules
 
-enum-told-6 : tie.Need-enum-told-6
+enum-told-6 : tie.Need-enum_told-in-JournalFull
 enum-told-6 c = search rules
 
-enum-told-7 : tie.Need-enum-told-7
+enum-told-7 : tie.Need-enum_told-in-NothingToTakeBack
 enum-told-7 c = search rules
 
-returns : tie.Need-returns
+returns : tie.Need-returns-in-Done
 unfolding told seat_told number_of
-returns c = rw c.enum_told.given.1
+returns c = rw c.in-Done.is
 
-returns-2 : tie.Need-returns-2
+returns-2 : tie.Need-returns-in-NoTicket
 unfolding told seat_told number_of
-returns-2 c = rw c.enum-told2.given.1
+returns-2 c = rw c.in-NoTicket.is
 
-returns-3 : tie.Need-returns-3
+returns-3 : tie.Need-returns-in-AlreadyOpen
 unfolding told seat_told number_of
-returns-3 c = rw c.enum-told3.given.1
+returns-3 c = rw c.in-AlreadyOpen.is
 
-returns-4 : tie.Need-returns-4
+returns-4 : tie.Need-returns-in-NoOpeningLeft
 unfolding told seat_told number_of
-returns-4 c = rw c.enum-told4.given.1
+returns-4 c = rw c.in-NoOpeningLeft.is
 
-returns-5 : tie.Need-returns-5
+returns-5 : tie.Need-returns-in-BadNumber
 unfolding told seat_told number_of
-returns-5 c = rw c.enum-told5.given.1
+returns-5 c = rw c.in-BadNumber.is
 
-returns-6 : tie.Need-returns-6
+returns-6 : tie.Need-returns-in-JournalFull
 unfolding told seat_told number_of
-returns-6 c = rw c.enum-told6.given.1
+returns-6 c = rw c.in-JournalFull.is
 
-returns-7 : tie.Need-returns-7
+returns-7 : tie.Need-returns-in-NothingToTakeBack
 unfolding told seat_told number_of
-returns-7 c = rw c.enum-told7.given.1
+returns-7 c = rw c.in-NothingToTakeBack.is
 
-pub of-seat-spec : {M : Type 1} → statement M
-of-seat-spec =
+pub of_seat_spec : {M : Type 1} → statement M
+of_seat_spec =
     tie.close
     (tie.spec
     enum_told

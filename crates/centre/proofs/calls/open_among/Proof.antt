@@ -18,113 +18,113 @@ use Rattle.centre.proofs.calls.open_among.Tie as tie
 
 -- a gathered directory has all its places
 places-full : (c : tie.Start) → length c.args.g.records ≡ records_most
-places-full c = simp length-map at c.well-formed.1.0.1.1.1.0.1.0.1
+places-full c = (omega arith)
 
 -- where the room and the directory were found fit; and where its seat is lent
-room-good : (c : tie.Else1) → room_fits c.before.before.before.before.before.args.room.now ≡ true
-room-good c = sym c.before.room_fits.ensures ∙ not-false _ c.if1.false
+room-good : (c : tie.Else-not-room_fits) → room_fits c.args.room.now ≡ true
+room-good c = sym c.room_fits.ensures ∙ not-false _ c.if-not-room_fits.false-raw
 
-listed : (c : tie.Else2) → fit_gathered c.before.before.before.before.before.before.before.args.g ≡ true
-listed c = sym c.before.fits2.ensures ∙ not-false _ c.if2.false
+listed : (c : tie.Else-not-fits) → fit_gathered c.args.g ≡ true
+listed c = sym c.fits.ensures ∙ not-false _ c.if-not-fits.false-raw
 
-abbrev start : tie.After-seat-from → tie.Start
-start c = c.before.before.before.before.before.before.before.before.before
+abbrev start : tie.After-seat_from-from → tie.Start
+start c = c.before.before.before.before.before.before.before.before
 
-lent : (c : tie.After-seat-from) → Lent (start c).args.room.now (start c).args.seat c.seat-from.result
-lent c = record { fit = room-good c.before.before.before.before; low = c.before.if3.false; place = c.seat-from.ensures }
+lent : (c : tie.After-seat_from-from) → Lent (start c).args.room.now (start c).args.seat c.seat_from-from.result
+lent c = record { fit = room-good c.before.before.before.before; low = c.if-seat-ge-SEATS.false; place = c.seat_from-from.ensures }
 
-room-fits-requires : tie.Need-room-fits-requires
+room-fits-requires : tie.Need-room_fits-requires
 room-fits-requires c κs = tt
 
-same_length : tie.Need-same-length
+same_length : tie.Need-shape_of-room-then-not-room_fits
 same_length c = search rules
 
-returns : tie.Need-returns
+returns : tie.Need-returns-then-not-room_fits
 returns c =
-    let given = c.before.before.before.before.before.args in
+    let given = c.args in
     open-room-unfit given.g given.seat given.sums.now given.room.now
-    (sym c.before.room_fits.ensures ∙ not-true _ c.if1.true)
+    (sym c.room_fits.ensures ∙ not-true _ c.if-not-room_fits.true-raw)
 
 fits-requires : tie.Need-fits-requires
 fits-requires c κs = tt
 
-same-length-2 : tie.Need-same-length-2
+same-length-2 : tie.Need-shape_of-room-then-not-fits
 same-length-2 c = search rules
 
-returns-2 : tie.Need-returns-2
+returns-2 : tie.Need-returns-then-not-fits
 returns-2 c =
-    let begun : tie.Start = c.before.before.before.before.before.before.before in
+    let begun : tie.Start = c.before.before.before.before.before.before in
     let given = begun.args in
     open-unlisted given.g given.seat given.sums.now given.room.now (room-good c.before.before) (places-full begun)
-    (sym c.before.fits2.ensures ∙ not-true _ c.if2.true)
+    (sym c.fits.ensures ∙ not-true _ c.if-not-fits.true-raw)
 
-same-length-3 : tie.Need-same-length-3
+same-length-3 : tie.Need-shape_of-room-then-seat-ge-SEATS
 same-length-3 c = search rules
 
-returns-3 : tie.Need-returns-3
+returns-3 : tie.Need-returns-then-seat-ge-SEATS
 returns-3 c =
-    let begun : tie.Start = c.before.before.before.before.before.before.before.before in
+    let begun : tie.Start = c.before.before.before.before.before.before.before in
     let given = begun.args in
     open-no-seat given.g given.seat given.sums.now given.room.now (room-good c.before.before.before) (places-full begun)
-    (listed c.before) c.if3.true
+    (listed c.before) c.if-seat-ge-SEATS.true
 
-seat-from-requires : tie.Need-seat-from-requires
-seat-from-requires c κs = c.if3.false
+seat-from-requires : tie.Need-seat_from-from-requires
+seat-from-requires c κs = c.if-seat-ge-SEATS.false
 
-add-to : tie.Need-overflow-add-to
-add-to c = omega (arith, c.seat-from.ensures, c.before.if3.false)
+add-to : tie.Need-overflow_add-to
+add-to c = omega (arith, c.seat_from-from.ensures, c.if-seat-ge-SEATS.false)
 
-mul-open-seat : tie.Need-overflow-mul-open-seat
-mul-open-seat c = omega (arith, c.seat-from.ensures, c.before.if3.false)
+mul-open-seat : tie.Need-offset_bounds-room-from
+mul-open-seat c = omega (arith, c.seat_from-from.ensures, c.if-seat-ge-SEATS.false)
 
-sub-open-seat : tie.Need-overflow-sub-open-seat
+sub-open-seat : tie.Need-slice_bounds-open_seat-count
 sub-open-seat c = search rules
 
-part-open-seat-start : tie.Need-slice-bounds-open-seat-start
+part-open-seat-start : tie.Need-slice_bounds-open_seat-start
 part-open-seat-start c = search rules
 
-part-open-seat-end : tie.Need-slice-bounds-open-seat-end
+part-open-seat-end : tie.Need-slice_bounds-open_seat-end
 part-open-seat-end c = seat-ends (lent c)
 
-open-seat-requires : tie.Need-open-seat-requires
+open-seat-requires : tie.Need-open_seat-answer-requires
 open-seat-requires c κs =
-    let here : tie.After-seat-from = c.before in
+    let here : tie.After-seat_from-from = c.before in
     (lent-long (lent here), lent_fits (lent here), few-gathered (start here).args.g (listed here.before.before))
 
 -- the seat that came back is as long as it was
-opened-long : (c : tie.After-open-seat) → length c.open-seat.new.0 ≡ seat_long
-opened-long c = c.open-seat.auto.0 ∙ lent-long (lent c.before.before)
+opened-long : (c : tie.After-open_seat-answer) → length c.open_seat-answer.new.s ≡ seat_long
+opened-long c = c.open_seat-answer.auto.s ∙ lent-long (lent c.before.before)
 
-seat-in-requires : tie.Need-seat-in-requires
+seat-in-requires : tie.Need-seat_in-requires
 seat-in-requires c κs =
-    let opened : tie.After-open-seat = c.before.before.before in
+    let opened : tie.After-open_seat-answer = c.before.before in
     let here = lent opened.before.before in
-    (back_long here opened.open-seat.new.0 (opened-long opened), here.low)
+    (back_long here opened.open_seat-answer.new.s (opened-long opened), here.low)
 
-head-requires : tie.Need-head-requires
+head-requires : tie.Need-head-h-requires
 head-requires c κs =
-    let opened : tie.After-open-seat = c.before.before.before.before in
-    let again = back-seat (lent opened.before.before) opened.open-seat.new.0 (opened-long opened) in
-    ap length (c.seat-in.ensures ∙ again) ∙ opened-long opened
+    let opened : tie.After-open_seat-answer = c.before.before.before in
+    let again = back-seat (lent opened.before.before) opened.open_seat-answer.new.s (opened-long opened) in
+    ap length (c.seat_in.ensures ∙ again) ∙ opened-long opened
 
-of-opening-requires : tie.Need-of-opening-requires
+of-opening-requires : tie.Need-of_opening-requires
 of-opening-requires c κs = tt
 
-same-length-4 : tie.Need-same-length-4
+same-length-4 : tie.Need-shape_of-room
 same-length-4 c = search rules
 
-returns-4 : tie.Need-returns-4
+returns-4 : tie.Need-returns
 returns-4 c =
-    let opened : tie.After-open-seat = c.before.before.before.before.before.before in
-    let here : tie.After-seat-from = opened.before.before in
+    let opened : tie.After-open_seat-answer = c.before.before.before.before.before in
+    let here : tie.After-seat_from-from = opened.before.before in
     let given = (start here).args in
-    let called = opened.open-seat in
+    let called = opened.open_seat-answer in
     open-end given.g given.seat given.sums.now given.room.now (places-full (start here)) (listed here.before.before) (lent here)
-    c.of-opening.result called.result called.new.0 c.before.head.result called.ensures.0 called.ensures.1
-    (opened-long opened) _ c.before.before.seat-in.ensures c.before.head.ensures c.of-opening.ensures
+    c.of_opening.result called.result called.new.s c.head-h.result called.ensures.0 called.ensures.1
+    (opened-long opened) _ c.seat_in.ensures c.head-h.ensures c.of_opening.ensures
 
-pub open-among-spec : {M : Type 1} → statement M
-open-among-spec =
+pub open_among_spec : {M : Type 1} → statement M
+open_among_spec =
     tie.close
     (tie.spec
     room-fits-requires

@@ -13,60 +13,60 @@ use Rattle.centre.proofs.calls.read_found.Statement.{statement}
 use Rattle.centre.proofs.calls.read_found.Tie as tie
 
 -- where the room was found fit; and where there is such a seat
-room-good : (c : tie.Else1) → room_fits c.before.before.before.args.room.now ≡ true
-room-good c = sym c.before.room_fits.ensures ∙ not-false _ c.if1.false
+room-good : (c : tie.Else-not-room_fits) → room_fits c.args.room.now ≡ true
+room-good c = sym c.room_fits.ensures ∙ not-false _ c.if-not-room_fits.false-raw
 
-abbrev start : tie.Else3 → tie.Start
+abbrev start : tie.Else-ticket-ge-SEATS → tie.Start
 start c = c.before.before.before.before.before.before
 
-right-length : (c : tie.Else3) → length (start c).args.room.now ≡ room_long
+right-length : (c : tie.Else-ticket-ge-SEATS) → length (start c).args.room.now ≡ room_long
 right-length c = room-long (start c).args.room.now (room-good c.before.before.before)
 
-room-fits-requires : tie.Need-room-fits-requires
+room-fits-requires : tie.Need-room_fits-requires
 room-fits-requires c κs = tt
 
-returns : tie.Need-returns
+returns : tie.Need-returns-then-not-room_fits
 returns c =
-    let given = c.before.before.before.args in
+    let given = c.args in
     read-room-unfit given.fit given.owner given.ticket given.number given.room.now
-    (sym c.before.room_fits.ensures ∙ not-true _ c.if1.true)
+    (sym c.room_fits.ensures ∙ not-true _ c.if-not-room_fits.true-raw)
 
-returns-2 : tie.Need-returns-2
+returns-2 : tie.Need-returns-then-not-fit
 returns-2 c =
-    let given = c.before.before.before.before.args in
+    let given = c.args in
     read-unlisted given.fit given.owner given.ticket given.number given.room.now
-    (room-good c.before) (not-true _ c.if2.true)
+    (room-good c.before) (not-true _ c.if-not-fit.true-raw)
 
-returns-3 : tie.Need-returns-3
+returns-3 : tie.Need-returns-then-ticket-ge-SEATS
 returns-3 c =
-    let given = c.before.before.before.before.before.before.args in
+    let given = c.args in
     read-no-seat given.fit given.owner given.ticket given.number given.room.now
-    (room-good c.before.before.before) (not-false _ c.before.before.if2.false) c.if3.true
+    (room-good c.before.before.before) (not-false _ c.if-not-fit.false-raw) c.if-ticket-ge-SEATS.true
 
-seat-in-requires : tie.Need-seat-in-requires
-seat-in-requires c κs = (right-length c, c.if3.false)
+seat-in-requires : tie.Need-seat_in-s-requires
+seat-in-requires c κs = (right-length c, c.if-ticket-ge-SEATS.false)
 
-read-account-requires : tie.Need-read-account-requires
+read-account-requires : tie.Need-read_account-reading-requires
 read-account-requires c κs = (
-  ap length c.seat-in.ensures
-      ∙ seat-length (start c.before).args.room.now (start c.before).args.ticket.seat (right-length c.before) c.before.if3.false,
-  (start c.before).requires (not-false _ c.before.before.before.if2.false),
+  ap length c.seat_in-s.ensures
+      ∙ seat-length (start c.before).args.room.now (start c.before).args.ticket.seat (right-length c.before) c.if-ticket-ge-SEATS.false,
+  (start c.before).requires (not-false _ c.if-not-fit.false-raw),
 )
 
-of-reading-requires : tie.Need-of-reading-requires
+of-reading-requires : tie.Need-of_reading-requires
 of-reading-requires c κs = tt
 
-returns-4 : tie.Need-returns-4
+returns-4 : tie.Need-returns
 returns-4 c =
-    let here : tie.Else3 = c.before.before.before in
+    let here : tie.Else-ticket-ge-SEATS = c.before.before.before.before in
     let given = (start here).args in
-    let read = c.before.read-account in
+    let read = c.read_account-reading in
     read-end given.fit given.owner given.ticket given.number given.room.now
-    (room-good here.before.before.before) (not-false _ here.before.before.if2.false) here.if3.false
-    _ c.before.before.seat-in.ensures c.of-reading.result read.result read.ensures c.of-reading.ensures
+    (room-good here.before.before.before) (not-false _ here.if-not-fit.false-raw) here.if-ticket-ge-SEATS.false
+    _ c.seat_in-s.ensures c.of_reading.result read.result read.ensures c.of_reading.ensures
 
-pub read-found-spec : {M : Type 1} → statement M
-read-found-spec =
+pub read_found_spec : {M : Type 1} → statement M
+read_found_spec =
     tie.close
     (tie.spec
     room-fits-requires

@@ -8,30 +8,30 @@ use borrow.Author.Rules.{rules}
 use Rattle.centre.proofs.slips.write_slip.Statement.{statement}
 use Rattle.centre.proofs.slips.write_slip.Tie as tie
 
-write-requires : tie.Need-write-requires
+write-requires : tie.Need-write-writing-requires
 write-requires c κs = tt
 
-enum_told : tie.Need-enum-told
+enum_told : tie.Need-enum_told-1
 enum_told c = search rules
 
-enum-told-2 : tie.Need-enum-told-2
+enum-told-2 : tie.Need-enum_told-in-NotWritten
 enum-told-2 c = search rules
 
-same_length : tie.Need-same-length
+same_length : tie.Need-shape_of-buffer-in-Written
 same_length c = search rules
 
-returns : tie.Need-returns
+returns : tie.Need-returns-in-Written
 unfolding told
-returns c = (write-end c.before.before.before.before.before.before.before.args.s c.before.before.before.before.before.before.before.args.buffer.now answer.Done c.before.before.before.before.write.result Written c.before.before.before.before.write.ensures.0 c.enum_told.given.1 refl, c.before.before.before.before.write.ensures.1)
+returns c = (write-end c.args.s c.args.buffer.now answer.Done c.write-writing.result Written c.write-writing.ensures.0 c.in-Written.is refl, c.write-writing.ensures.1)
 
-same-length-2 : tie.Need-same-length-2
+same-length-2 : tie.Need-shape_of-buffer-in-NotWritten
 same-length-2 c = search rules
 
-returns-2 : tie.Need-returns-2
+returns-2 : tie.Need-returns-in-NotWritten
 unfolding told
-returns-2 c = (write-end c.before.before.before.before.before.before.before.args.s c.before.before.before.before.before.before.before.args.buffer.now answer.NoSlip c.before.before.before.before.write.result NotWritten c.before.before.before.before.write.ensures.0 c.enum-told2.given.1 refl, c.before.before.before.before.write.ensures.1)
+returns-2 c = (write-end c.args.s c.args.buffer.now answer.NoSlip c.write-writing.result NotWritten c.write-writing.ensures.0 c.in-NotWritten.is refl, c.write-writing.ensures.1)
 
-pub write-slip-spec : {M : Type 1} → statement M
-write-slip-spec =
+pub write_slip_spec : {M : Type 1} → statement M
+write_slip_spec =
     tie.close
     (tie.spec write-requires enum_told enum-told-2 same_length returns same-length-2 returns-2)

@@ -9,12 +9,12 @@ use Rattle.centre.proofs.submit.put_slip.Tie as tie
 write-requires : tie.Need-write-requires
 write-requires c κs = tt
 
-same_length : tie.Need-same-length
+same_length : tie.Need-shape_of-slip
 same_length c = search rules
 
 returns : tie.Need-returns
 unfolding slip_of
-returns c = c.before.before.write.ensures.1 ∙ slip-written (slip_of c.before.before.before.before.before.args.ticket c.before.before.before.before.before.args.number c.before.before.before.before.before.args.x) c.before.before.before.before.before.args.slip.now c.before.before.before.before.before.requires
+returns c = c.write.ensures.1 ∙ slip-written (slip_of c.args.ticket c.args.number c.args.x) c.args.slip.now c.requires
 
-pub put-slip-spec : {M : Type 1} → statement M
-put-slip-spec = tie.close (tie.spec write-requires same_length returns)
+pub put_slip_spec : {M : Type 1} → statement M
+put_slip_spec = tie.close (tie.spec write-requires same_length returns)

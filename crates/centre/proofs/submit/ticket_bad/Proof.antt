@@ -6,25 +6,25 @@ use Rattle.centre.proofs.Submitted.{seat-missing, seat-there}
 use Rattle.centre.proofs.submit.ticket_bad.Statement.{statement}
 use Rattle.centre.proofs.submit.ticket_bad.Tie as tie
 
-abbrev start : tie.Else1 → tie.Start
+abbrev start : tie.Else-ticket-ge-SEATS → tie.Start
 start c = c.before.before.before
 
-returns : tie.Need-returns
-returns c = seat-missing c.before.before.before.args.ticket c.before.before.before.args.room.now c.if1.true
+returns : tie.Need-returns-then-ticket-ge-SEATS
+returns c = seat-missing c.args.ticket c.args.room.now c.if-ticket-ge-SEATS.true
 
-seat-in-requires : tie.Need-seat-in-requires
-seat-in-requires c κs = ((start c).requires, c.if1.false)
+seat-in-requires : tie.Need-seat_in-requires
+seat-in-requires c κs = ((start c).requires, c.if-ticket-ge-SEATS.false)
 
-no-ticket-requires : tie.Need-no-ticket-requires
+no-ticket-requires : tie.Need-no_ticket-requires
 no-ticket-requires c κs =
-    let here : tie.Else1 = c.before in
-    ap length c.seat-in.ensures ∙ seat-length (start here).args.room.now (start here).args.ticket.seat (start here).requires here.if1.false
+    let here : tie.Else-ticket-ge-SEATS = c.before in
+    ap length c.seat_in.ensures ∙ seat-length (start here).args.room.now (start here).args.ticket.seat (start here).requires here.if-ticket-ge-SEATS.false
 
-returns-2 : tie.Need-returns-2
+returns-2 : tie.Need-returns
 returns-2 c =
-    let here : tie.Else1 = c.before.before in
-    seat-there (start here).args.ticket (start here).args.room.now here.if1.false
-    _ c.before.seat-in.ensures c.no-ticket.result c.no-ticket.ensures
+    let here : tie.Else-ticket-ge-SEATS = c.before.before in
+    seat-there (start here).args.ticket (start here).args.room.now here.if-ticket-ge-SEATS.false
+    _ c.seat_in.ensures c.no_ticket.result c.no_ticket.ensures
 
-pub ticket-bad-spec : {M : Type 1} → statement M
-ticket-bad-spec = tie.close (tie.spec returns seat-in-requires no-ticket-requires returns-2)
+pub ticket_bad_spec : {M : Type 1} → statement M
+ticket_bad_spec = tie.close (tie.spec returns seat-in-requires no-ticket-requires returns-2)
