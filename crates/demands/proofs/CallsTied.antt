@@ -2,9 +2,8 @@
 -- satisfies its contract has the answer `call_told`, leaves the room `call_room` and, where a slip buffer was lent, the buffer `call_slip`.
 -- That is stated over the contract's own reading (`F.Reads.Post`), so that a line of `specs/Calls.antt` which cites another definition than the
 -- contract does is refused here. `lay_out` is tied to the definitions that demand 1's `LaidOut` is about.
--- Four calls of `centre` take the directory as a lent slice of records: `open_seat`, `set_account`, `submit_sheet` and `read_account`. They are
--- proved by hand and have no such reading. They are tied through `lender`: each of its four functions makes one of these calls, promises the same
--- of a directory by value, and keeps the promise by what that call promises.
+-- Four calls of `centre` take the directory as a lent slice of records: `open_seat`, `set_account`, `submit_sheet` and `read_account`. `lender`'s
+-- four functions make one of these calls each and promise the same of a directory by value.
 -- Where a call takes no directory the demands may have any, and where it is lent no room they may have any room.
 -- Assumes nothing.
 use mathlib.Core.Path.{◌≡◌, refl}
@@ -36,6 +35,14 @@ use Rattle.centre.proofs.write_slip.Kinds as write-slip-kinds
 use Rattle.centre.proofs.write_slip.Reads as write-slip-reads
 use Rattle.centre.proofs.read_slip.Kinds as read-slip-kinds
 use Rattle.centre.proofs.read_slip.Reads as read-slip-reads
+use Rattle.centre.proofs.open_seat.Kinds as open-seat-kinds
+use Rattle.centre.proofs.open_seat.Reads as open-seat-reads
+use Rattle.centre.proofs.set_account.Kinds as set-account-kinds
+use Rattle.centre.proofs.set_account.Reads as set-account-reads
+use Rattle.centre.proofs.submit_sheet.Kinds as submit-sheet-kinds
+use Rattle.centre.proofs.submit_sheet.Reads as submit-sheet-reads
+use Rattle.centre.proofs.read_account.Kinds as read-account-kinds
+use Rattle.centre.proofs.read_account.Reads as read-account-reads
 use Rattle.lender.proofs.open_with.Kinds as open-with-kinds
 use Rattle.lender.proofs.open_with.Reads as open-with-reads
 use Rattle.lender.proofs.set_with.Kinds as set-with-kinds
@@ -125,6 +132,29 @@ pub read-slip : (dir : List Participant) (room : List ℕ) → Tied _ read-slip-
     (λ κs a x e. IsCall dir (reading a.0.now) room x room)
 unfolding call_told call_room
 read-slip dir room κs a x e p = (p, refl)
+
+-- the calls that are lent the directory
+pub open-seat : Tied _ open-seat-kinds.ps open-seat-kinds.r open-seat-reads.Post
+    (λ κs a x e. IsCall a.1.0.now (opening a.1.1.0 a.1.1.1.0.now) a.0.now x e.0.now)
+unfolding call_told call_room
+open-seat κs a x e p = p
+
+pub set-account : Tied _ set-account-kinds.ps set-account-kinds.r set-account-reads.Post
+    (λ κs a x e. IsCall a.1.0.now (under a.1.1.0 (set a.1.1.1.0 a.1.1.1.1.0 a.1.1.1.1.1.0)) a.0.now x e.0.now)
+unfolding call_told act_told call_room act_room
+set-account κs a x e p = p
+
+pub submit-sheet : Tied _ submit-sheet-kinds.ps submit-sheet-kinds.r submit-sheet-reads.Post
+    (λ κs a x e. IsCallWithSlip a.1.0.now
+    (under a.1.1.0 (submit a.1.1.1.0 a.1.1.1.1.0 a.1.1.1.1.1.0.now a.1.1.1.1.1.1.0.now))
+    a.0.now x e.0.now e.1.1.1.1.1.1.0.now)
+unfolding call_told act_told call_room act_room call_slip act_slip
+submit-sheet κs a x e p = p
+
+pub read-account : Tied _ read-account-kinds.ps read-account-kinds.r read-account-reads.Post
+    (λ κs a x e. IsCall a.1.0.now (under a.1.1.0 (read a.1.1.1.0 a.1.1.1.1.0)) a.0.now x a.0.now)
+unfolding call_told act_told call_room act_room
+read-account κs a x e p = (p, refl)
 
 -- the calls of `lender`
 pub open-with : Tied _ open-with-kinds.ps open-with-kinds.r open-with-reads.Post
