@@ -13,7 +13,6 @@
 #![tactic(auto)]
 
 mod calls;
-mod input;
 mod records;
 mod rows;
 mod show;

@@ -7,7 +7,6 @@ mod accounts;
 mod done;
 mod expected;
 mod fields;
-mod input;
 mod meanings;
 mod messages;
 mod refusals;

@@ -3,8 +3,6 @@
 // accepted, and is refused at the same place. The second buffer holds the longest listing that there is (`longest` in `lister/proofs`).
 #![tactic(auto)]
 
-mod input;
-
 use input::read_full;
 use lister::LISTING_MOST;
 use std::io;

@@ -4,7 +4,6 @@
 #![tactic(auto)]
 
 mod ask;
-mod input;
 mod messages;
 mod sheets;
 mod slips;

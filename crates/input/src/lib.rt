@@ -1,4 +1,7 @@
-// Reading what stands on standard input.
+// Reads an input into a buffer: the whole of it, or as much as fills the buffer. The programs take what stands on standard input by this one
+// function, and go through the bytes themselves.
+#![tactic(auto)]
+
 ghost use Rattle.std.specs.Prelude.{◌≡◌, ◌<◌, ◌≤◌, length, take, IfOk};
 ghost use Rattle.std.specs.Io.{ReadsAtMost};
 ghost use Rattle.std.specs.Io.KnownBytes.{Consumes, IsAtEnd};
