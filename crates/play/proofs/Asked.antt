@@ -1,12 +1,11 @@
 -- What the calls of a seat ask for, once its fitness was tested.
 -- Assumes nothing.
 use mathlib.Core.Path.{◌≡◌, sym, ap, ◌∙◌}
-use mathlib.Core.Bool.{Bool, true, false, not}
+use mathlib.Core.Bool.{Bool, true}
 use mathlib.Core.List.{List}
 use Prim.Native.Nat.{ℕ, ◌<◌, ◌≤◌}
 use native.Mathlib.Omega.{arith}
 use lib.ListN.{length}
-use borrow.Author.Tests.{not-false}
 use Rattle.slip.specs.Meaning.{steps}
 use Rattle.layout.specs.declared.rows.Head.{Head}
 use Rattle.layout.specs.declared.rows.Step.{Step}
@@ -19,9 +18,9 @@ use Rattle.seat.specs.Fit.{seat_fits}
 use Rattle.seat.proofs.Kept.{fit-long, fit-open}
 use Rattle.seat.proofs.Forward.{fit_low}
 
-module _ (s : List ℕ) (b : Bool) (e : b ≡ seat_fits s) (t : not b ≡ false) where
+module _ (s : List ℕ) (b : Bool) (e : b ≡ seat_fits s) (t : b ≡ true) where
   pub fits : seat_fits s ≡ true
-  fits = sym e ∙ not-false b t
+  fits = sym e ∙ t
 
   pub long : length s ≡ seat_long
   long = fit-long s fits
@@ -32,11 +31,11 @@ module _ (s : List ℕ) (b : Bool) (e : b ≡ seat_fits s) (t : not b ≡ false)
       let count : h.steps ≡ (head_of s).steps = ap (λ (y : Head). y.steps) k in (long, omega (arith, count, few))
 
   -- to record a step
-  pub step-asks : (h : Head) → h ≡ head_of s → h.opened ≡ 1 → h.steps < steps → (x : Step) (p : Bool) → p ≡ possible x s → not p ≡ false
+  pub step-asks : (h : Head) → h ≡ head_of s → h.opened ≡ 1 → h.steps < steps → (x : Step) (p : Bool) → p ≡ possible x s → p ≡ true
       → Low s × (step_fits x ≡ true) × ((head_of s).steps < steps)
   step-asks h k o few x p q n =
       let count : h.steps ≡ (head_of s).steps = ap (λ (y : Head). y.steps) k in (
         fit_low s long (fit-open s fits (sym (ap (λ (y : Head). y.opened) k) ∙ o)),
-        possible-fits x s (sym q ∙ not-false p n),
+        possible-fits x s (sym q ∙ n),
         omega (arith, count, few),
       )
