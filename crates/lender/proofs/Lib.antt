@@ -1,4 +1,2 @@
-pub mod Counting
 pub mod Directories
-pub mod Lending
 pub mod Settled
