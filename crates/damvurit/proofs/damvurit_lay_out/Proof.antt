@@ -7,17 +7,17 @@ use borrow.Author.Rules.{rules}
 use Rattle.damvurit.proofs.damvurit_lay_out.Statement.{statement}
 use Rattle.damvurit.proofs.damvurit_lay_out.Tie as tie
 
-lay-out-requires : tie.Need-lay-out-requires
+lay-out-requires : tie.Need-lay_out-answer-requires
 lay-out-requires c κs = tt
 
-result-of-requires : tie.Need-result-of-requires
-result-of-requires c κs = plain c.before.before.lay-out.result _ c.before.before.lay-out.ensures.0 (lay-plain c.before.before.before.before.before.args.room.now)
+result-of-requires : tie.Need-result_of-requires
+result-of-requires c κs = plain c.lay_out-answer.result _ c.lay_out-answer.ensures.0 (lay-plain c.args.room.now)
 
-same_length : tie.Need-same-length
+same_length : tie.Need-shape_of-room
 same_length c = search rules
 
 returns : tie.Need-returns
-returns c = (c.result-of.ensures ∙ ap result_number c.before.before.before.lay-out.ensures.0, c.before.before.before.lay-out.ensures.1)
+returns c = (c.result_of.ensures ∙ ap result_number c.lay_out-answer.ensures.0, c.lay_out-answer.ensures.1)
 
-pub damvurit-lay-out-spec : {M : Type 1} → statement M
-damvurit-lay-out-spec = tie.close (tie.spec lay-out-requires result-of-requires same_length returns)
+pub damvurit_lay_out_spec : {M : Type 1} → statement M
+damvurit_lay_out_spec = tie.close (tie.spec lay-out-requires result-of-requires same_length returns)

@@ -7,20 +7,20 @@ use Rattle.damvurit.proofs.Details.{read_plain}
 use Rattle.damvurit.proofs.damvurit_read.Statement.{statement}
 use Rattle.damvurit.proofs.damvurit_read.Tie as tie
 
-gather-flat-requires : tie.Need-gather-flat-requires
+gather-flat-requires : tie.Need-gather_flat-g-requires
 gather-flat-requires c κs = tt
 
-read-among-requires : tie.Need-read-among-requires
+read-among-requires : tie.Need-read_among-answer-requires
 read-among-requires c κs = tt
 
-account-in-requires : tie.Need-account-in-requires
+account-in-requires : tie.Need-account_in-requires
 account-in-requires c κs = tt
 
-result-of-requires : tie.Need-result-of-requires
-result-of-requires c κs = plain c.before.read-among.result _ (read-called c.before.before.before.before.before.args.dir.now c.before.before.gather-flat.result c.before.before.gather-flat.ensures c.before.read-among.result (ticket_of c.before.before.before.before.before.args.seat c.before.before.before.before.before.args.opening) c.before.before.before.before.before.args.owner c.before.before.before.before.before.args.account c.before.before.before.before.before.args.room.now c.before.read-among.ensures) (read_plain (flat_directory c.before.before.before.before.before.args.dir.now) (ticket_of c.before.before.before.before.before.args.seat c.before.before.before.before.before.args.opening) c.before.before.before.before.before.args.owner c.before.before.before.before.before.args.account c.before.before.before.before.before.args.room.now)
+result-of-requires : tie.Need-result_of-requires
+result-of-requires c κs = plain c.read_among-answer.result _ (read-called c.args.dir.now c.gather_flat-g.result c.gather_flat-g.ensures c.read_among-answer.result (ticket_of c.args.seat c.args.opening) c.args.owner c.args.account c.args.room.now c.read_among-answer.ensures) (read_plain (flat_directory c.args.dir.now) (ticket_of c.args.seat c.args.opening) c.args.owner c.args.account c.args.room.now)
 
 returns : tie.Need-returns
-returns c = let called = read-called c.before.before.before.before.before.before.args.dir.now c.before.before.before.gather-flat.result c.before.before.before.gather-flat.ensures c.before.before.read-among.result (ticket_of c.before.before.before.before.before.before.args.seat c.before.before.before.before.before.before.args.opening) c.before.before.before.before.before.before.args.owner c.before.before.before.before.before.before.args.account c.before.before.before.before.before.before.args.room.now c.before.before.read-among.ensures in (c.result-of.ensures ∙ ap result_number called, c.before.account-in.ensures ∙ ap seven called)
+returns c = let called = read-called c.args.dir.now c.gather_flat-g.result c.gather_flat-g.ensures c.read_among-answer.result (ticket_of c.args.seat c.args.opening) c.args.owner c.args.account c.args.room.now c.read_among-answer.ensures in (c.result_of.ensures ∙ ap result_number called, c.account_in.ensures ∙ ap seven called)
 
-pub damvurit-read-spec : {M : Type 1} → statement M
-damvurit-read-spec = tie.close (tie.spec gather-flat-requires read-among-requires account-in-requires result-of-requires returns)
+pub damvurit_read_spec : {M : Type 1} → statement M
+damvurit_read_spec = tie.close (tie.spec gather-flat-requires read-among-requires account-in-requires result-of-requires returns)

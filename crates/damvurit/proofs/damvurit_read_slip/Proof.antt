@@ -6,17 +6,17 @@ use Rattle.damvurit.proofs.Details.{slip-plain}
 use Rattle.damvurit.proofs.damvurit_read_slip.Statement.{statement}
 use Rattle.damvurit.proofs.damvurit_read_slip.Tie as tie
 
-read-slip-requires : tie.Need-read-slip-requires
+read-slip-requires : tie.Need-read_slip-answer-requires
 read-slip-requires c κs = tt
 
-slip-in-requires : tie.Need-slip-in-requires
+slip-in-requires : tie.Need-slip_in-requires
 slip-in-requires c κs = tt
 
-result-of-requires : tie.Need-result-of-requires
-result-of-requires c κs = plain c.before.read-slip.result _ c.before.read-slip.ensures (slip-plain c.before.before.before.args.slip.now)
+result-of-requires : tie.Need-result_of-requires
+result-of-requires c κs = plain c.read_slip-answer.result _ c.read_slip-answer.ensures (slip-plain c.args.slip.now)
 
 returns : tie.Need-returns
-returns c = (c.result-of.ensures ∙ ap result_number c.before.before.read-slip.ensures, c.before.slip-in.ensures ∙ ap six c.before.before.read-slip.ensures)
+returns c = (c.result_of.ensures ∙ ap result_number c.read_slip-answer.ensures, c.slip_in.ensures ∙ ap six c.read_slip-answer.ensures)
 
-pub damvurit-read-slip-spec : {M : Type 1} → statement M
-damvurit-read-slip-spec = tie.close (tie.spec read-slip-requires slip-in-requires result-of-requires returns)
+pub damvurit_read_slip_spec : {M : Type 1} → statement M
+damvurit_read_slip_spec = tie.close (tie.spec read-slip-requires slip-in-requires result-of-requires returns)

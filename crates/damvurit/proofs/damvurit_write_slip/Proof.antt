@@ -7,17 +7,17 @@ use borrow.Author.Rules.{rules}
 use Rattle.damvurit.proofs.damvurit_write_slip.Statement.{statement}
 use Rattle.damvurit.proofs.damvurit_write_slip.Tie as tie
 
-write-slip-requires : tie.Need-write-slip-requires
+write-slip-requires : tie.Need-write_slip-answer-requires
 write-slip-requires c κs = tt
 
-result-of-requires : tie.Need-result-of-requires
-result-of-requires c κs = plain c.before.before.write-slip.result _ c.before.before.write-slip.ensures.0 (write-plain (slip_of c.before.before.before.before.before.args.kind c.before.before.before.before.before.args.status c.before.before.before.before.before.args.check c.before.before.before.before.before.args.seat c.before.before.before.before.before.args.opening c.before.before.before.before.before.args.step) c.before.before.before.before.before.args.slip.now)
+result-of-requires : tie.Need-result_of-requires
+result-of-requires c κs = plain c.write_slip-answer.result _ c.write_slip-answer.ensures.0 (write-plain (slip_of c.args.kind c.args.status c.args.check c.args.seat c.args.opening c.args.step) c.args.slip.now)
 
-same_length : tie.Need-same-length
+same_length : tie.Need-shape_of-slip
 same_length c = search rules
 
 returns : tie.Need-returns
-returns c = (c.result-of.ensures ∙ ap result_number c.before.before.before.write-slip.ensures.0, c.before.before.before.write-slip.ensures.1)
+returns c = (c.result_of.ensures ∙ ap result_number c.write_slip-answer.ensures.0, c.write_slip-answer.ensures.1)
 
-pub damvurit-write-slip-spec : {M : Type 1} → statement M
-damvurit-write-slip-spec = tie.close (tie.spec write-slip-requires result-of-requires same_length returns)
+pub damvurit_write_slip_spec : {M : Type 1} → statement M
+damvurit_write_slip_spec = tie.close (tie.spec write-slip-requires result-of-requires same_length returns)

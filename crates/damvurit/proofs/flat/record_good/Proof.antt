@@ -8,5 +8,5 @@ returns : tie.Need-returns
 unfolding record_good
 returns c = refl
 
-pub record-good-spec : {M : Type 1} → statement M
-record-good-spec = tie.close (tie.spec returns)
+pub record_good_spec : {M : Type 1} → statement M
+record_good_spec = tie.close (tie.spec returns)

@@ -7,15 +7,15 @@ use borrow.Author.Rules.{rules}
 use Rattle.damvurit.proofs.forms.account_in.Statement.{statement}
 use Rattle.damvurit.proofs.forms.account_in.Tie as tie
 
-enum-known-answer : tie.Need-enum-known-answer
+enum-known-answer : tie.Need-enum_known-answer
 enum-known-answer c = search rules
 
-returns : tie.Need-returns
+returns : tie.Need-returns-in-Holds
 unfolding out_of told account_row
-returns c = rw c.before.before.answer.given.1
+returns c = rw c.in-Holds.is
 
-returns-2 : tie.Need-returns-2
-returns-2 c = no-account c.before.args.answer c.match.keys2
+returns-2 : tie.Need-returns-in_default
+returns-2 c = no-account c.args.answer c.in_default.in_default-own.keys2
 
-pub account-in-spec : {M : Type 1} → statement M
-account-in-spec = tie.close (tie.spec enum-known-answer returns returns-2)
+pub account_in_spec : {M : Type 1} → statement M
+account_in_spec = tie.close (tie.spec enum-known-answer returns returns-2)

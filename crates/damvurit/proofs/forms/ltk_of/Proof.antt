@@ -4,16 +4,16 @@ use Rattle.damvurit.specs.Boundary.{ltk_of}
 use Rattle.damvurit.proofs.forms.ltk_of.Statement.{statement}
 use Rattle.damvurit.proofs.forms.ltk_of.Tie as tie
 
-returns : tie.Need-returns
+returns : tie.Need-returns-then-out-into
 unfolding ltk_of
-returns c = rw c.if1.true
+returns c = rw c.if-out-into.true
 
-add-result : tie.Need-overflow-add-result
+add-result : tie.Need-overflow_add-result
 add-result c = search rules
 
-returns-2 : tie.Need-returns-2
+returns-2 : tie.Need-returns
 unfolding ltk_of
-returns-2 c = rw c.if1.false
+returns-2 c = rw c.if-out-into.false
 
-pub ltk-of-spec : {M : Type 1} → statement M
-ltk-of-spec = tie.close (tie.spec returns add-result returns-2)
+pub ltk_of_spec : {M : Type 1} → statement M
+ltk_of_spec = tie.close (tie.spec returns add-result returns-2)

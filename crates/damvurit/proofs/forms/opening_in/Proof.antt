@@ -6,15 +6,15 @@ use borrow.Author.Rules.{rules}
 use Rattle.damvurit.proofs.forms.opening_in.Statement.{statement}
 use Rattle.damvurit.proofs.forms.opening_in.Tie as tie
 
-enum-known-answer : tie.Need-enum-known-answer
+enum-known-answer : tie.Need-enum_known-answer
 enum-known-answer c = search rules
 
-returns : tie.Need-returns
+returns : tie.Need-returns-in-Opened
 unfolding out_of told
-returns c = rw c.before.answer.given.1
+returns c = rw c.in-Opened.is
 
-returns-2 : tie.Need-returns-2
-returns-2 c = no-opening c.before.args.answer c.match.keys2
+returns-2 : tie.Need-returns-in_default
+returns-2 c = no-opening c.args.answer c.in_default.in_default-own.keys2
 
-pub opening-in-spec : {M : Type 1} → statement M
-opening-in-spec = tie.close (tie.spec enum-known-answer returns returns-2)
+pub opening_in_spec : {M : Type 1} → statement M
+opening_in_spec = tie.close (tie.spec enum-known-answer returns returns-2)

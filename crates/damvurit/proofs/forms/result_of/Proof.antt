@@ -7,138 +7,138 @@ use borrow.Author.Rules.{rules}
 use Rattle.damvurit.proofs.forms.result_of.Statement.{statement}
 use Rattle.damvurit.proofs.forms.result_of.Tie as tie
 
-enum_told : tie.Need-enum-told
+enum_told : tie.Need-enum_told-1
 enum_told c = search rules
 
-enum-known-answer : tie.Need-enum-known-answer
+enum-known-answer : tie.Need-enum_known-answer
 enum-known-answer c = search rules
 
-enum-known-answer-2 : tie.Need-enum-known-answer-2
+enum-known-answer-2 : tie.Need-enum_known-answer-in-Holds-1
 enum-known-answer-2 c = search rules
 
-enum-known-answer-3 : tie.Need-enum-known-answer-3
+enum-known-answer-3 : tie.Need-enum_known-answer-in-Says-1
 enum-known-answer-3 c = search rules
 
-enum-told-2 : tie.Need-enum-told-2
+enum-told-2 : tie.Need-enum_told-in-RoomUnfit
 enum-told-2 c = search rules
 
-enum-told-3 : tie.Need-enum-told-3
+enum-told-3 : tie.Need-enum_told-in-DirectoryUnfit
 enum-told-3 c = search rules
 
-enum-told-4 : tie.Need-enum-told-4
+enum-told-4 : tie.Need-enum_told-in-NoTicket
 enum-told-4 c = search rules
 
-enum-told-5 : tie.Need-enum-told-5
+enum-told-5 : tie.Need-enum_told-in-AlreadyOpen
 enum-told-5 c = search rules
 
-enum-told-6 : tie.Need-enum-told-6
+enum-told-6 : tie.Need-enum_told-in-NoOpeningLeft
 enum-told-6 c = search rules
 
-enum-told-7 : tie.Need-enum-told-7
+enum-told-7 : tie.Need-enum_told-in-BadNumber
 enum-told-7 c = search rules
 
-enum-known-answer-4 : tie.Need-enum-known-answer-4
+enum-known-answer-4 : tie.Need-enum_known-answer-in-IllFormed-1
 enum-known-answer-4 c = search rules
 
-mul-result : tie.Need-overflow-mul-result
-mul-result c = let low = place-low _ _ c.before.before.before.requires c.before.answer4.given.1 in omega arith
+mul-result : tie.Need-overflow_mul-result
+mul-result c = let low = place-low _ _ c.requires c.in-IllFormed.is in omega arith
 
-add-result : tie.Need-overflow-add-result
-add-result c = let low = place-low _ _ c.before.before.before.requires c.before.answer4.given.1 in omega arith
+add-result : tie.Need-overflow_add-result
+add-result c = let low = place-low _ _ c.requires c.in-IllFormed.is in omega arith
 
-enum-known-answer-5 : tie.Need-enum-known-answer-5
+enum-known-answer-5 : tie.Need-enum_known-answer-in-BadField-1
 enum-known-answer-5 c = search rules
 
-mul-result-2 : tie.Need-overflow-mul-result-2
-mul-result-2 c = let low = field-low _ _ c.before.before.before.requires c.before.answer5.given.1 in omega arith
+mul-result-2 : tie.Need-overflow_mul-result-in-BadField
+mul-result-2 c = let low = field-low _ _ c.requires c.in-BadField.is in omega arith
 
-add-result-2 : tie.Need-overflow-add-result-2
-add-result-2 c = let low = field-low _ _ c.before.before.before.requires c.before.answer5.given.1 in omega arith
+add-result-2 : tie.Need-overflow_add-result-in-BadField
+add-result-2 c = let low = field-low _ _ c.requires c.in-BadField.is in omega arith
 
-enum-told-8 : tie.Need-enum-told-8
+enum-told-8 : tie.Need-enum_told-in-JournalFull
 enum-told-8 c = search rules
 
-enum-told-9 : tie.Need-enum-told-9
+enum-told-9 : tie.Need-enum_told-in-NothingToTakeBack
 enum-told-9 c = search rules
 
-enum-told-10 : tie.Need-enum-told-10
+enum-told-10 : tie.Need-enum_told-in-NoSlip
 enum-told-10 c = search rules
 
-enum-known-answer-6 : tie.Need-enum-known-answer-6
+enum-known-answer-6 : tie.Need-enum_known-answer-in-NotTaken-1
 enum-known-answer-6 c = search rules
 
-mul-result-3 : tie.Need-overflow-mul-result-3
-mul-result-3 c = let low = check-low _ _ c.before.before.before.requires c.before.answer6.given.1 in omega arith
+mul-result-3 : tie.Need-overflow_mul-result-in-NotTaken
+mul-result-3 c = let low = check-low _ _ c.requires c.in-NotTaken.is in omega arith
 
-add-result-3 : tie.Need-overflow-add-result-3
-add-result-3 c = let low = check-low _ _ c.before.before.before.requires c.before.answer6.given.1 in omega arith
+add-result-3 : tie.Need-overflow_add-result-in-NotTaken
+add-result-3 c = let low = check-low _ _ c.requires c.in-NotTaken.is in omega arith
 
-returns : tie.Need-returns
+returns : tie.Need-returns-in-Done
 unfolding result_number told
-returns c = rw c.enum_told.given.1
+returns c = rw c.in-Done.is
 
-returns-2 : tie.Need-returns-2
+returns-2 : tie.Need-returns-in-Opened
 unfolding result_number told
-returns-2 c = rw c.before.answer.given.1
+returns-2 c = rw c.in-Opened.is
 
-returns-3 : tie.Need-returns-3
+returns-3 : tie.Need-returns-in-Holds
 unfolding result_number told
-returns-3 c = rw c.before.answer2.given.1
+returns-3 c = rw c.in-Holds.is
 
-returns-4 : tie.Need-returns-4
+returns-4 : tie.Need-returns-in-Says
 unfolding result_number told
-returns-4 c = rw c.before.answer3.given.1
+returns-4 c = rw c.in-Says.is
 
-returns-5 : tie.Need-returns-5
+returns-5 : tie.Need-returns-in-RoomUnfit
 unfolding result_number told
-returns-5 c = rw c.enum-told2.given.1
+returns-5 c = rw c.in-RoomUnfit.is
 
-returns-6 : tie.Need-returns-6
+returns-6 : tie.Need-returns-in-DirectoryUnfit
 unfolding result_number told
-returns-6 c = rw c.enum-told3.given.1
+returns-6 c = rw c.in-DirectoryUnfit.is
 
-returns-7 : tie.Need-returns-7
+returns-7 : tie.Need-returns-in-NoTicket
 unfolding result_number told
-returns-7 c = rw c.enum-told4.given.1
+returns-7 c = rw c.in-NoTicket.is
 
-returns-8 : tie.Need-returns-8
+returns-8 : tie.Need-returns-in-AlreadyOpen
 unfolding result_number told
-returns-8 c = rw c.enum-told5.given.1
+returns-8 c = rw c.in-AlreadyOpen.is
 
-returns-9 : tie.Need-returns-9
+returns-9 : tie.Need-returns-in-NoOpeningLeft
 unfolding result_number told
-returns-9 c = rw c.enum-told6.given.1
+returns-9 c = rw c.in-NoOpeningLeft.is
 
-returns-10 : tie.Need-returns-10
+returns-10 : tie.Need-returns-in-BadNumber
 unfolding result_number told
-returns-10 c = rw c.enum-told7.given.1
+returns-10 c = rw c.in-BadNumber.is
 
-returns-11 : tie.Need-returns-11
+returns-11 : tie.Need-returns-in-IllFormed
 unfolding result_number told
-returns-11 c = rw c.before.answer4.given.1
+returns-11 c = rw c.in-IllFormed.is
 
-returns-12 : tie.Need-returns-12
+returns-12 : tie.Need-returns-in-BadField
 unfolding result_number told
-returns-12 c = rw c.before.answer5.given.1
+returns-12 c = rw c.in-BadField.is
 
-returns-13 : tie.Need-returns-13
+returns-13 : tie.Need-returns-in-JournalFull
 unfolding result_number told
-returns-13 c = rw c.enum-told8.given.1
+returns-13 c = rw c.in-JournalFull.is
 
-returns-14 : tie.Need-returns-14
+returns-14 : tie.Need-returns-in-NothingToTakeBack
 unfolding result_number told
-returns-14 c = rw c.enum-told9.given.1
+returns-14 c = rw c.in-NothingToTakeBack.is
 
-returns-15 : tie.Need-returns-15
+returns-15 : tie.Need-returns-in-NoSlip
 unfolding result_number told
-returns-15 c = rw c.enum-told10.given.1
+returns-15 c = rw c.in-NoSlip.is
 
-returns-16 : tie.Need-returns-16
+returns-16 : tie.Need-returns-in-NotTaken
 unfolding result_number told
-returns-16 c = rw c.before.answer6.given.1
+returns-16 c = rw c.in-NotTaken.is
 
-pub result-of-spec : {M : Type 1} → statement M
-result-of-spec =
+pub result_of_spec : {M : Type 1} → statement M
+result_of_spec =
     tie.close
     (tie.spec
     enum_told
