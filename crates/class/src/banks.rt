@@ -27,6 +27,7 @@ pub fn no_banks() -> Gathered
 }
 
 // One bank more, at the end. A 17th is counted, so that the list is seen to be too long; behind it nothing changes any more.
+#[tactic(auto, unfolding(crate::specs::Banks::with_bank, directory::specs::Gathering::added))]
 fn with_bank(g: Gathered, p: Participant) -> Gathered
     ensures { result ≡ with_bank g p }
 {
@@ -42,6 +43,7 @@ fn with_bank(g: Gathered, p: Participant) -> Gathered
     next
 }
 
+#[tactic(auto, unfolding(crate::specs::Banks::bank_of))]
 fn bank(code: u64, instant: u64, kind: Kind) -> Participant
     ensures { result ≡ bank_of code instant kind }
 {
@@ -53,6 +55,7 @@ fn bank(code: u64, instant: u64, kind: Kind) -> Participant
 }
 
 // The list of banks behind a line.
+#[tactic(auto, unfolding(crate::specs::Banks::with_line, crate::specs::Banks::with_word))]
 pub fn with_line(g: Gathered, line: Line) -> Gathered
     ensures { result ≡ with_line g line }
 {

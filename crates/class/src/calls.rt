@@ -15,6 +15,7 @@ use script::{Line, Word};
 use seat::{Limit, Wish};
 
 // The seat and the opening number, which stand first.
+#[tactic(auto, unfolding(crate::specs::Lines::ticket_in))]
 fn ticket(line: Line) -> Ticket
     ensures { result ≡ ticket_in line }
 {
@@ -41,6 +42,7 @@ fn sums(values: &[u64], count: usize) -> &[u64]
     &values[1..count]
 }
 
+#[tactic(auto, unfolding(crate::specs::Lines::sums_in))]
 fn open_by(room: &mut [u64], g: Gathered, line: Line) -> Answer
     ensures result_value { told result ≡ open_told (directory_in g) (value_at line 0) (sums_in line) room.old }
     ensures room_after { room.new ≡ open_after (directory_in g) (value_at line 0) (sums_in line) room.old }
@@ -50,6 +52,7 @@ fn open_by(room: &mut [u64], g: Gathered, line: Line) -> Answer
 }
 
 // An LPO as a line has it: 0 for none, n + 1 for n.
+#[tactic(auto, unfolding(crate::specs::Lines::limit_in))]
 fn limit(n: u64) -> Limit
     ensures { result ≡ limit_in n }
 {
@@ -59,6 +62,7 @@ fn limit(n: u64) -> Limit
     Limit::Of(n - 1)
 }
 
+#[tactic(auto, unfolding(crate::specs::Lines::wish_in))]
 fn wish(line: Line) -> Wish
     ensures { result ≡ wish_in line }
 {
@@ -111,6 +115,7 @@ fn slip_by(digits: &[u8]) -> Answer
 
 // Makes the call of a line whose text this is, with the list of banks and a buffer for the slip. A line that is bad, or that makes no call,
 // leaves everything as it is.
+#[tactic(auto, unfolding(centre::specs::Answers::told, crate::specs::Lines::line_told, crate::specs::Lines::word_told, crate::specs::Lines::line_after, crate::specs::Lines::word_after, crate::specs::Lines::line_slip, crate::specs::Lines::word_slip))]
 pub fn perform(room: &mut [u64], g: Gathered, line: Line, text: &[u8], slip: &mut [u8]) -> Answer
     ensures result_value { told result ≡ line_told (directory_in g) line text.now slip.old room.old }
     ensures room_after { room.new ≡ line_after (directory_in g) line text.now slip.old room.old }

@@ -27,6 +27,7 @@ fn no_ink() -> Ink
 }
 
 // What is kept of a text with one byte more.
+#[tactic(auto, unfolding(crate::specs::Digits::inked))]
 fn one_more(ink: Ink, b: u8) -> Ink
     ensures { result ≡ inked ink b }
 {
@@ -90,6 +91,7 @@ fn all_digits(s: &[u8]) -> bool
 }
 
 // Whether a text is the digits of whole bytes, no more of them than a slip has.
+#[tactic(auto, unfolding(crate::specs::Digits::whole_bytes))]
 pub fn whole_bytes(ink: Ink) -> bool
     ensures { result ≡ whole_bytes ink }
 {
@@ -119,6 +121,7 @@ fn byte(high: u8, low: u8) -> u8
 }
 
 // The six bytes that twelve digits write. Of a shorter text only those count that it has digits for.
+#[tactic(auto, unfolding(crate::specs::Digits::twelve_as_bytes))]
 pub fn twelve_as_bytes(ink: Ink) -> [u8; SLIP_LONG]
     ensures { result ≡ twelve_as_bytes ink }
 {

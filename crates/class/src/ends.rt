@@ -5,6 +5,7 @@ ghost use Rattle.class.specs.Ends.{trimmed_of, behind_of};
 use script::text::text_end;
 
 // A text without the blanks behind it.
+#[tactic(auto, unfolding(crate::specs::Ends::trimmed_of))]
 pub fn trimmed(s: &[u8]) -> &[u8]
     ensures { result.now ≡ trimmed_of s.now }
 {
