@@ -1,13 +1,13 @@
--- Parts of a line: its text without the blanks behind it, and what stands from a place on.
+-- Parts of a line: its text without the blanks behind it, what stands from a place on, and the sums of an opening.
 -- Assumes nothing.
-use mathlib.Core.Path.{◌≡◌, sym}
+use mathlib.Core.Path.{◌≡◌, refl, sym, ◌∙◌}
 use mathlib.Core.Bool.{Bool, true, false, ◌&&◌, cond}
 use mathlib.Core.List.{List, [], ◌∷◌}
 use Prim.Native.Nat.{ℕ, zero, suc, ◌-◌, ◌≤◌, ◌<◌}
 use native.Mathlib.Omega.{arith}
 use lib.Dec.{eqb}
-use lib.ListN.{length, take, drop, length-take, drop_of_length-le}
-use lib.Seq.{take-nil}
+use lib.ListN.{length, take, drop, length-take, length-drop, drop_of_length-le}
+use lib.Seq.{take_all, take-nil}
 use Rattle.script.specs.Places.{is_blank, text_end}
 use Rattle.class.specs.Ends.{trimmed_of, behind_of}
 
@@ -36,3 +36,17 @@ behind-past s end from e h =
 pub behind-part : (s : List ℕ) (end from : ℕ) → end ≡ text_end s → take (end - from) (drop from s) ≡ behind_of s from
 unfolding behind_of trimmed_of
 behind-part s end from e = rw e (sym (front-behind from (text_end s) s))
+
+-- the sums behind the first value: none, all, or as many as are counted
+pub sums_none : (count : ℕ) (values : List ℕ) → count < 1 → [] ≡ take (count - 1) (drop 1 values)
+sums_none count values h = let e : count - 1 ≡ 0 = omega arith in rw e
+
+pub sums-empty : (count : ℕ) (values : List ℕ) → length values < 1 → [] ≡ take (count - 1) (drop 1 values)
+sums-empty count values h =
+    let l : length values ≤ 1 = omega arith in
+    rw (drop_of_length-le values l) (sym (take-nil (count - 1)))
+
+pub sums-all : (count : ℕ) (values : List ℕ) → length values < count → take (length values - 1) (drop 1 values) ≡ take (count - 1) (drop 1 values)
+sums-all count values h =
+    take_all (length values - 1) (drop 1 values) (omega (arith, length-drop 1 values))
+    ∙ sym (take_all (count - 1) (drop 1 values) (omega (arith, length-drop 1 values)))

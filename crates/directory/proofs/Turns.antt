@@ -10,6 +10,7 @@ use lib.Dec.{ltb, eqb}
 use lib.ListN.{length, get_or, drop, drop_of_length-le, length-take, length-drop}
 use lib.Seq.{drop-cons, get_or-take}
 use borrow.Author.Tests.{ltb-true, ltb-false}
+use Rattle.shape.specs.Bytes.{every}
 use Rattle.shape.proofs.Tests.{and_left, and_right}
 use Rattle.directory.specs.declared.Participant.{Participant}
 use Rattle.directory.specs.declared.Gathered.{Gathered}
@@ -51,6 +52,18 @@ module _ (g : Gathered) (places : length g.records ≡ records_most) where
 
     end : goes g i ≡ false → drop i (records_in g) ≡ []
     end t = drop_of_length-le (records_in g) (stops i t)
+
+    module _ (f : Participant → Bool) where
+      pub every-hit : (d : Participant) → goes g i ≡ true → f (get_or g.records i d) ≡ true
+          → every f (drop i (records_in g)) ≡ every f (drop (i + 1) (records_in g))
+      every-hit d t e = rw (turn d t, e)
+
+      pub every-miss : (d : Participant) → goes g i ≡ true → f (get_or g.records i d) ≡ false
+          → every f (drop i (records_in g)) ≡ false
+      every-miss d t e = rw (turn d t, e)
+
+      pub every-end : goes g i ≡ false → every f (drop i (records_in g)) ≡ true
+      every-end t = rw (end t)
 
     module _ (code : ℕ) where
       pub found-hit : (d : Participant) → goes g i ≡ true → eqb (get_or g.records i d).code code ≡ true

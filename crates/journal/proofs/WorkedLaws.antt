@@ -121,7 +121,7 @@ reached-none s l =
       ahead = λ (k : ℕ) (h : k < (head_of s).steps). refl;
       rest = λ (k : ℕ) (a : (head_of s).steps + 0 ≤ k) (b : k < steps). refl;
       sums = λ (i : ℕ) (h : i < accounts). refl;
-      grown = λ (n : ℕ) (g : Grown n s). let None-more : n ≡ n + 0 = omega arith in subst (λ (m : ℕ). Grown m s) None-more g;
+      grown = λ (n : ℕ) (g : Grown n s). let none_more : n ≡ n + 0 = omega arith in subst (λ (m : ℕ). Grown m s) none_more g;
     }
 
 reached-first : (x : Step) (xs : List Step) (s t : List ℕ) → length s ≡ seat_long → (head_of s).steps < steps → step_fits x ≡ true

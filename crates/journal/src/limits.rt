@@ -28,6 +28,7 @@ pub fn available_below(a: Account, amount: u64) -> bool
 }
 
 // Whether there is an LPO above 0 and turnover and an amount go above it. No sum is made, so that none can be too high.
+#[tactic(auto, unfolding(crate::specs::Limits::turnover_above))]
 pub fn turnover_above(a: Account, amount: u64) -> bool
     ensures { result ≡ turnover_above a amount }
 {

@@ -48,3 +48,6 @@ right-place s _ (long over) = omega arith
 -- a place is at most the length of the longest sheet
 pub place-within : (s : List ℕ) (r : Sheet) → Answers s r → r.place ≤ sheet_most
 place-within s r a = subst (λ (x : Sheet). x.place ≤ sheet_most) (sym a.image) (right-place s a.reading a.right)
+
+-- what is answered for an accepted sheet and for a refused one
+pub ruleset numbers = (at_count, at-refusal)

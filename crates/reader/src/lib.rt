@@ -15,6 +15,7 @@ pub const REFUSED_FROM: u64 = 1_000_000;
 
 // Reads the bytes. Below 256 it answers with the start of that element, below 512 with the depth of the element that stands 256 before, and
 // from 512 on with the number of elements, or the place of the refusal and a million.
+#[tactic(auto, using(crate::proofs::Numbers::numbers))]
 pub fn damvurit_read_sheet(s: &[u8], which: usize) -> u64
     ensures { result ≡ number_at (reading_of s.now) which }
 {
