@@ -4,7 +4,7 @@ use Rattle.std.proofs.lemmas.List.{length-replicate}
 use Rattle.vectors.proofs.main.Goals as goal
 
 pub slice_bounds-read_full-end : goal.slice_bounds-read_full-end
-slice_bounds-read_full-end c = length-replicate {0} {A = ℕ} 524288 0
+slice_bounds-read_full-end c = sym (length-replicate {0} {A = ℕ} 524288 0)
 
 pub slice_bounds-buffer-end : goal.slice_bounds-buffer-end
 slice_bounds-buffer-end c = c.in_ok-n.ensures.bound.0

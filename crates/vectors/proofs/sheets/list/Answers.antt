@@ -8,5 +8,6 @@ slice_bounds-out-end g c = rw (c.listing-count.ensures.value, c.listing-count.en
 
 pub slice_bounds-write_all-end : goal.slice_bounds-write_all-end
 slice_bounds-write_all-end g c =
-    let within : c.listing-count.result ≤ length c.listing-count.new.out = rw (c.listing-count.ensures.value, c.listing-count.ensures.out_after) (inside _ _) in
+    let within : c.listing-count.result ≤ length c.listing-count.new.out =
+    rw (c.listing-count.ensures.value, c.listing-count.ensures.out_after) (inside _ _) in
     sym (length-take-le _ _ within)
