@@ -38,7 +38,7 @@ use Rattle.damvurit.proofs.damvurit_open.Reads as open-reads
 use Rattle.damvurit.proofs.damvurit_close.Kinds as close-kinds
 use Rattle.damvurit.proofs.damvurit_close.Reads as close-reads
 use Rattle.damvurit.proofs.damvurit_set.Kinds as set-kinds
-use Rattle.damvurit.proofs.damvurit_set.Reads as set_Reads
+use Rattle.damvurit.proofs.damvurit_set.Reads as set-reads
 use Rattle.damvurit.proofs.damvurit_submit.Kinds as submit-kinds
 use Rattle.damvurit.proofs.damvurit_submit.Reads as submit-reads
 use Rattle.damvurit.proofs.damvurit_take_back.Kinds as take-back-kinds
@@ -77,7 +77,7 @@ pub damvurit-close : (dir : List Participant) → Tied _ close-kinds.ps close-ki
 unfolding call_told act_told call_room act_room
 damvurit-close dir κs a x e p = p
 
-pub damvurit-set : Tied _ set-kinds.ps set-kinds.r set_Reads.Post
+pub damvurit-set : Tied _ set-kinds.ps set-kinds.r set-reads.Post
     (λ κs a x e. let settings = a.1.1.1.1.1.1 in
     IsCall result_number (flat_directory a.1.0.now)
     (under (ticket_of a.1.1.0 a.1.1.1.0) (set a.1.1.1.1.0 a.1.1.1.1.1.0

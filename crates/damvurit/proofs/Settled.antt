@@ -13,7 +13,7 @@ use Rattle.damvurit.proofs.damvurit_open.Reads as open-reads
 use Rattle.damvurit.proofs.damvurit_close.Kinds as close-kinds
 use Rattle.damvurit.proofs.damvurit_close.Reads as close-reads
 use Rattle.damvurit.proofs.damvurit_set.Kinds as set-kinds
-use Rattle.damvurit.proofs.damvurit_set.Reads as set_Reads
+use Rattle.damvurit.proofs.damvurit_set.Reads as set-reads
 use Rattle.damvurit.proofs.damvurit_submit.Kinds as submit-kinds
 use Rattle.damvurit.proofs.damvurit_submit.Reads as submit-reads
 use Rattle.damvurit.proofs.damvurit_take_back.Kinds as take-back-kinds
@@ -37,7 +37,7 @@ opening κs a x y e f = by-equations
 pub close : SettledWith _ close-kinds.ps close-kinds.r close-reads.Post (List ℕ) (λ κs e. e.0.now)
 close κs a x y e f = by-equations
 
-pub set : SettledWith _ set-kinds.ps set-kinds.r set_Reads.Post (List ℕ) (λ κs e. e.0.now)
+pub set : SettledWith _ set-kinds.ps set-kinds.r set-reads.Post (List ℕ) (λ κs e. e.0.now)
 set κs a x y e f = by-equations
 
 pub take_back : SettledWith _ take-back-kinds.ps take-back-kinds.r take-back-reads.Post (List ℕ) (λ κs e. e.0.now)
