@@ -94,8 +94,8 @@ def tree_code(text, names, firsts, wide):
     numbers = in_lines([f"{n}," for n in firsts], CODE_LINE_MOST)
     text = once(TREE_CODE, r"^pub const NODES: usize = \d+;$", text, lambda m: f"pub const NODES: usize = {len(names)};")
     text = once(TREE_CODE, r"^const NAME_WIDE: usize = \d+;$", text, lambda m: f"const NAME_WIDE: usize = {wide};")
-    text = once(TREE_CODE, r"^(const NAMES: [^=]*= \[\n).*?^\];$", text, lambda m: f"{m[1]}{rows}];")
-    return once(TREE_CODE, r"^(const FIRSTS: [^=]*= \[\n).*?^\];$", text, lambda m: f"{m[1]}{numbers}\n];")
+    text = once(TREE_CODE, r"^(static NAMES: [^=]*= \[\n).*?^\];$", text, lambda m: f"{m[1]}{rows}];")
+    return once(TREE_CODE, r"^(static FIRSTS: [^=]*= \[\n).*?^\];$", text, lambda m: f"{m[1]}{numbers}\n];")
 
 
 def kinds_code(text, kinds, node):

@@ -2,7 +2,7 @@
 -- out, each with its whole answer: number, detail and values, and the slip buffer after it. The calls and their answers are those of the
 -- demands, and so of the contracts in `centre`; the statement is proved by working every call out (`proofs/Computed.antt`).
 -- Sums are in kopecks. Seat 3 is opened first in every case, with opening number 1, and every message comes on 2024-03-01.
-use Rattle.std.specs.Prelude.{true, false, List, [], ◌∷◌, ◌++◌, map, ◌≡◌, ℕ, replicate}
+use Rattle.std.specs.Prelude.{true, false, List, [], ◌∷◌, ◌++◌, map, ◌≡◌, ℕ, replicate, Option, Some}
 use Prim.Native.String.{String}
 use Rattle.shape.specs.Text.{bytes}
 use Rattle.table.specs.declared.Kind.{Kind}
@@ -15,8 +15,6 @@ use Rattle.slip.specs.Image.{image}
 use Rattle.directory.specs.declared.Participant.{Participant}
 use Rattle.directory.specs.declared.Kind.TheVariants.{Owner, Direct, Indirect}
 use Rattle.seat.specs.declared.settings.Wish.{Wish}
-use Rattle.seat.specs.declared.settings.Limit.{Limit}
-use Rattle.seat.specs.declared.settings.Limit.TheVariants.{Of}
 use Rattle.strike.specs.Strike.{events}
 use Rattle.centre.specs.declared.Ticket.{Ticket}
 use Rattle.centre.specs.Answers.{Told, done, refused, refused_with}
@@ -114,14 +112,14 @@ reads number = under ticket (read 300001 number)
 
 -- account 1 of 300001 is set: no blocks, this LTK, this LPO. It opens with LTK 0 and an LPO of 500.00, its opening sum; a case that names one
 -- of the two leaves the other as it opened
-abbrev pub wish : ℕ → Limit → Wish
+abbrev pub wish : ℕ → Option ℕ → Wish
 wish ltk lpo = record { out = false; into = false; ltk = ltk; lpo = lpo }
 
-abbrev pub sets : ℕ → Limit → Call
+abbrev pub sets : ℕ → Option ℕ → Call
 sets ltk lpo = under ticket (set 300001 1 (wish ltk lpo))
 
-abbrev pub as_opened : Limit
-as_opened = Of 50000
+abbrev pub as_opened : Option ℕ
+as_opened = Some 50000
 
 -- 1. All 500.00 of account 1 can be moved, and then there are 0.00 and 600.00. One kopeck more is too much for its money, which is looked at before
 -- its LPO
@@ -146,11 +144,11 @@ case2 =
 abbrev pub case3 : List Case
 case3 =
     from_start (
-    sets 0 (Of 40000) gives values []
+    sets 0 (Some 40000) gives values []
     ∷ moves "1" "400.00" gives accepted 2
     ∷ moves "2" "0.01" gives rejected 23 3
     ∷ [])
-    ∷ from_start (sets 0 (Of 0) gives values [] ∷ moves "1" "0.01" gives rejected 24 2 ∷ [])
+    ∷ from_start (sets 0 (Some 0) gives values [] ∷ moves "1" "0.01" gives rejected 24 2 ∷ [])
     ∷ []
 
 -- 4. A direct branch is no owner: its camt.050 is rejected. An indirect branch's is no step and has no slip

@@ -9,19 +9,19 @@ use lib.ListN.{length}
 use Rattle.slip.specs.Meaning.{seats}
 use Rattle.layout.specs.Seat.{room_long, seat_of, with_seat}
 use Rattle.layout.proofs.Rooms.{seat-same}
-use Rattle.seat.specs.declared.calls.Answer.{Answer}
-use Rattle.seat.specs.declared.calls.Answer.TheVariants.{Done, NoTicket, AlreadyOpen, NoOpeningLeft, BadNumber, JournalFull, NothingToTakeBack}
-use Rattle.seat.specs.Calls.{number_of, behind as seat_behind}
+use Rattle.std.specs.Prelude.{Ok, Err}
+use Rattle.seat.specs.declared.calls.Refusal.TheVariants.{NoTicket, AlreadyOpen, NoOpeningLeft, BadNumber, JournalFull, NothingToTakeBack}
+use Rattle.seat.specs.Calls.{Answer, number_of, behind as seat_behind}
 use Rattle.centre.specs.Answers.{Told, done, refused, is_done, behind, seat_told}
 
 -- each table with its tests left open
-pub close-table : (t : Bool) → seat_told (cond t NoTicket Done) [] ≡ cond t (refused 3) (done [])
+pub close-table : (t : Bool) → seat_told (cond t (Err NoTicket) (Ok tt)) [] ≡ cond t (refused 3) (done [])
 unfolding seat_told number_of
 close-table true = refl
 close-table false = refl
 
 pub open-table : (t u v : Bool) (values : List ℕ)
-    → seat_told (cond t AlreadyOpen (cond u NoOpeningLeft (cond v BadNumber Done))) values
+    → seat_told (cond t (Err AlreadyOpen) (cond u (Err NoOpeningLeft) (cond v (Err BadNumber) (Ok tt)))) values
     ≡ cond t (refused 4) (cond u (refused 5) (cond v (refused 6) (done values)))
 unfolding seat_told number_of
 open-table true u v values = refl
@@ -30,7 +30,7 @@ open-table false false true values = refl
 open-table false false false values = refl
 
 pub set-table : (t u v : Bool)
-    → seat_told (cond t NoTicket (cond u BadNumber (cond v JournalFull Done))) []
+    → seat_told (cond t (Err NoTicket) (cond u (Err BadNumber) (cond v (Err JournalFull) (Ok tt)))) []
     ≡ cond t (refused 3) (cond u (refused 6) (cond v (refused 9) (done [])))
 unfolding seat_told number_of
 set-table true u v = refl
@@ -39,42 +39,37 @@ set-table false false true = refl
 set-table false false false = refl
 
 pub back-table : (t u : Bool)
-    → seat_told (cond t NoTicket (cond u NothingToTakeBack Done)) [] ≡ cond t (refused 3) (cond u (refused 10) (done []))
+    → seat_told (cond t (Err NoTicket) (cond u (Err NothingToTakeBack) (Ok tt))) [] ≡ cond t (refused 3) (cond u (refused 10) (done []))
 unfolding seat_told number_of
 back-table true u = refl
 back-table false true = refl
 back-table false false = refl
 
 pub read_table : (t u : Bool) (values : List ℕ)
-    → seat_told (cond t NoTicket (cond u BadNumber Done)) values ≡ cond t (refused 3) (cond u (refused 6) (done values))
+    → seat_told (cond t (Err NoTicket) (cond u (Err BadNumber) (Ok tt))) values ≡ cond t (refused 3) (cond u (refused 6) (done values))
 unfolding seat_told number_of
 read_table true u values = refl
 read_table false true values = refl
 read_table false false values = refl
 
 -- what a call gives back is told only where it is done
-pub told_with : (a : Answer) (v w : List ℕ) → (a ≡ Done → v ≡ w) → seat_told a v ≡ seat_told a w
+pub told_with : (a : Answer) (v w : List ℕ) → (a ≡ Ok tt → v ≡ w) → seat_told a v ≡ seat_told a w
 unfolding seat_told
-told_with Done v w e = ap done (e refl)
-told_with NoTicket v w e = refl
-told_with AlreadyOpen v w e = refl
-told_with NoOpeningLeft v w e = refl
-told_with BadNumber v w e = refl
-told_with JournalFull v w e = refl
-told_with NothingToTakeBack v w e = refl
+told_with (Ok u) v w e = ap done (e refl)
+told_with (Err refusal) v w e = refl
 
 -- the seat put back
 module _ (room : List ℕ) (k : ℕ) (long : length room ≡ room_long) (h : k < seats) (made : List ℕ) where
   put_back : (a : Answer) (values : List ℕ)
       → with_seat room k (seat_behind a made (seat_of room k)) ≡ behind (seat_told a values) (with_seat room k made) room
   unfolding seat_told number_of behind is_done
-  put_back Done values = refl
-  put_back NoTicket values = seat-same room k long h
-  put_back AlreadyOpen values = seat-same room k long h
-  put_back NoOpeningLeft values = seat-same room k long h
-  put_back BadNumber values = seat-same room k long h
-  put_back JournalFull values = seat-same room k long h
-  put_back NothingToTakeBack values = seat-same room k long h
+  put_back (Ok u) values = refl
+  put_back (Err NoTicket) values = seat-same room k long h
+  put_back (Err AlreadyOpen) values = seat-same room k long h
+  put_back (Err NoOpeningLeft) values = seat-same room k long h
+  put_back (Err BadNumber) values = seat-same room k long h
+  put_back (Err JournalFull) values = seat-same room k long h
+  put_back (Err NothingToTakeBack) values = seat-same room k long h
 
   pub room-behind : (a : Answer) (values : List ℕ) (t : Told) → seat_told a values ≡ t
       → with_seat room k (seat_behind a made (seat_of room k)) ≡ behind t (with_seat room k made) room

@@ -2,7 +2,7 @@
 -- none, makes it one step, which the seat can take, and a slip, which can be written because the seat fits and the ticket is its own.
 -- Assumes nothing.
 use mathlib.Core.Path.{◌≡◌, refl, sym, ap, subst, ◌∙◌}
-use mathlib.Core.Bool.{true, false, ◌||◌, false≢true}
+use mathlib.Core.Bool.{true, false, false≢true}
 use mathlib.Core.List.{List, ◌++◌}
 use Prim.Native.Nat.{ℕ, suc, ◌+◌, ◌-◌, ◌≤◌, ◌<◌}
 use native.Mathlib.Omega.{arith}
@@ -10,6 +10,7 @@ use native.Mathlib.Numerals.{add-one}
 use lib.Dec.{eqb}
 use lib.ListN.{length, drop}
 use borrow.Author.Tests.{le-leb, le-ltb, eq-eqb}
+use Rattle.std.specs.Prelude.{Ok, Err}
 use Rattle.shape.proofs.Tests.{or_left, or_right}
 use Rattle.slip.specs.declared.Slip.{Slip}
 use Rattle.slip.specs.Meaning.{seats, openings, steps, slip_long, says, is_slip}
@@ -32,7 +33,8 @@ use Rattle.judge.specs.Case.{Arises}
 use Rattle.judge.specs.Verdict.{verdict, step_by, judged_step}
 use Rattle.judge.proofs.Possible.{judged-says, judged-possible}
 use Rattle.centre.specs.declared.Ticket.{Ticket}
-use Rattle.centre.specs.declared.Answer.TheVariants.{Done, NotTaken}
+use Rattle.centre.specs.declared.answers.Done.TheVariants.{Plain}
+use Rattle.centre.specs.declared.answers.Refusal.TheVariants.{NotTaken}
 use Rattle.centre.specs.Answers.{Told, told, refused_with, is_done, behind}
 use Rattle.centre.specs.Submit.{not_taken, slip_of, judged_told, judged_after, judged_slip}
 
@@ -55,7 +57,7 @@ told-refused : (c : Case) (s : List ℕ) → not_taken (verdict c s) ≡ true �
 unfolding judged_told
 told-refused c s e = rw e
 
-told-done : (c : Case) (s : List ℕ) → not_taken (verdict c s) ≡ false → judged_told c s ≡ told Done
+told-done : (c : Case) (s : List ℕ) → not_taken (verdict c s) ≡ false → judged_told c s ≡ told (Ok Plain)
 unfolding judged_told told
 told-done c s e = rw e
 
@@ -63,11 +65,11 @@ pub done_refused : (check : ℕ) → is_done (refused_with 12 check) ≡ false
 unfolding is_done
 done_refused check = refl
 
-done-done : is_done (told Done) ≡ true
+done-done : is_done (told (Ok Plain)) ≡ true
 unfolding is_done told
 done-done = refl
 
-told-not : (check : ℕ) → told (NotTaken check) ≡ refused_with 12 check
+told-not : (check : ℕ) → told (Err (NotTaken check)) ≡ refused_with 12 check
 unfolding told
 told-not check = refl
 
@@ -95,9 +97,9 @@ module _ (ticket : Ticket) (s : List ℕ) (f : seat_fits s ≡ true) (t : no_tic
   opening-most = subst (λ (n : ℕ). n ≤ openings) (ticket-good ticket.opening s t).1 (open-fits s seat-open).most
 
 -- refused
-pub not_taken_lem : (ticket : Ticket) (c : Case) (s slip : List ℕ) (check : ℕ) → check ≡ verdict c s → (eqb check 1 || eqb check 2) ≡ true
-    → (told (NotTaken check) ≡ judged_told c s) × ((s ≡ judged_after c s) × (slip ≡ judged_slip ticket c s slip))
-unfolding not_taken judged_after judged_slip
+pub not_taken_lem : (ticket : Ticket) (c : Case) (s slip : List ℕ) (check : ℕ) → check ≡ verdict c s → not_taken check ≡ true
+    → (told (Err (NotTaken check)) ≡ judged_told c s) × ((s ≡ judged_after c s) × (slip ≡ judged_slip ticket c s slip))
+unfolding judged_after judged_slip
 not_taken_lem ticket c s slip check v e =
     let held : not_taken (verdict c s) ≡ true = subst (λ (n : ℕ). not_taken n ≡ true) v e in
     let refused : judged_told c s ≡ refused_with 12 (verdict c s) = told-refused c s held in
@@ -133,10 +135,9 @@ step-slip ticket number x slip room saying seat least most first last =
     slip-good (slip_of ticket number x) slip room saying seat least most first last
 
 -- taken: the step is the one of the check
-module _ (ticket : Ticket) (c : Case) (s slip : List ℕ) (check : ℕ) (v : check ≡ verdict c s) (n : (eqb check 1 || eqb check 2) ≡ false)
+module _ (ticket : Ticket) (c : Case) (s slip : List ℕ) (check : ℕ) (v : check ≡ verdict c s) (n : not_taken check ≡ false)
     (x : Step) (makes : x ≡ step_by c s check) (h : Head) (heads : h ≡ head_of s) where
   passes : not_taken (verdict c s) ≡ false
-  unfolding not_taken
   passes = subst (λ (k : ℕ). not_taken k ≡ false) v n
 
   making : x ≡ judged_step c s
@@ -147,10 +148,10 @@ module _ (ticket : Ticket) (c : Case) (s slip : List ℕ) (check : ℕ) (v : che
   counting = add-one h.steps ∙ ap (λ (k : Head). suc k.steps) heads
 
   pub taken : (after written : List ℕ) → after ≡ stepped x s → written ≡ image (slip_of ticket (h.steps + 1) x) ++ drop slip_long slip
-      → (told Done ≡ judged_told c s) × ((after ≡ judged_after c s) × (written ≡ judged_slip ticket c s slip))
+      → (told (Ok Plain) ≡ judged_told c s) × ((after ≡ judged_after c s) × (written ≡ judged_slip ticket c s slip))
   unfolding judged_after judged_slip
   taken after written steps_on writes =
-      let finished : judged_told c s ≡ told Done = told-done c s passes in
+      let finished : judged_told c s ≡ told (Ok Plain) = told-done c s passes in
       let over : is_done (judged_told c s) ≡ true = ap is_done finished ∙ done-done in (
         sym finished,
         (

@@ -10,7 +10,6 @@ pub mod RuledOut
 pub mod RuledOutSubmit
 pub mod SeatLent
 pub mod Settled
-pub mod SlipsTold
 pub mod SubmitSought
 pub mod Submitted
 pub mod Told

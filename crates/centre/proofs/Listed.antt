@@ -1,16 +1,14 @@
 -- A fit directory as it was gathered: it is the list of its records, and what is found in it stands at a place that a seat has.
 -- Assumes nothing.
-use mathlib.Core.Path.{◌≡◌, refl, sym, ap, ◌∙◌}
-use mathlib.Core.Bool.{Bool, true, false, false≢true}
+use Rattle.std.specs.Prelude.{Option}
+use mathlib.Core.Path.{◌≡◌, sym, ap, ◌∙◌}
+use mathlib.Core.Bool.{Bool, true, false}
 use mathlib.Core.List.{List}
-use Prim.Native.Nat.{ℕ, ◌≤◌}
-use lib.Dec.{leb}
+use Prim.Native.Nat.{ℕ}
 use lib.ListN.{length}
-use borrow.Author.Tests.{leb-true}
-use Rattle.shape.proofs.Tests.{and-false}
 use Rattle.directory.specs.declared.Participant.{Participant}
 use Rattle.directory.specs.declared.Gathered.{Gathered}
-use Rattle.directory.specs.declared.Found.{Found}
+use Rattle.directory.specs.declared.Listed.{Listed}
 use Rattle.directory.specs.Directory.{records_most, found, is_fit}
 use Rattle.directory.specs.Gathering.{records_in, directory_in, fit_gathered}
 use Rattle.directory.proofs.Finds.{fit-few}
@@ -29,11 +27,11 @@ module _ (g : Gathered) (full : length g.records ≡ records_most) where
     pub records-fit : is_fit (records_in g) ≡ true
     records-fit = ap is_fit (sym (directory-records g fit)) ∙ directory-is-fit
 
-    pub owner-fits : (code : ℕ) (f : Found) → f ≡ found (records_in g) code → place_fits f ≡ true
+    pub owner-fits : (code : ℕ) (f : Option Listed) → f ≡ found (records_in g) code → place_fits f ≡ true
     owner-fits code f e = ap place_fits e ∙ found-fits (records_in g) code (fit-few (records_in g) records-fit)
 
 -- with the result of the test for fitness: where it is fit, the owner found among the records is the one found in the directory
-module _ (g : Gathered) (code : ℕ) (fit : Bool) (f : Found) (tested : fit ≡ fit_gathered g) (e : f ≡ found (records_in g) code) where
+module _ (g : Gathered) (code : ℕ) (fit : Bool) (f : Option Listed) (tested : fit ≡ fit_gathered g) (e : f ≡ found (records_in g) code) where
   pub gathered-owner : fit ≡ true → f ≡ found (directory_in g) code
   gathered-owner h = e ∙ ap (λ (dir : List Participant). found dir code) (sym (directory-records g (sym tested ∙ h)))
 

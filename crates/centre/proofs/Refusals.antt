@@ -1,6 +1,8 @@
 -- Of each call the answer and the room behind it, at each place where it can end: the room is unfit; the room is fit and the directory is not;
 -- both are fit and there is no such seat; else what the seat's own call answers and leaves.
 -- Assumes nothing.
+use Rattle.std.specs.Prelude.{Option, Ok, Err}
+use Rattle.std.specs.declared.ops.Range.{Range}
 use mathlib.Core.Path.{◌≡◌, refl, sym, ap, subst, ◌∙◌}
 use mathlib.Core.Bool.{Bool, true, false, cond, not, ◌&&◌}
 use mathlib.Core.List.{List, [], ◌∷◌}
@@ -10,7 +12,7 @@ use lib.ListN.{length, replicate}
 use borrow.Author.Tests.{eq-eqb, ne_eqb, le-leb, lt-leb}
 use Rattle.slip.specs.Meaning.{seats, openings, steps}
 use Rattle.directory.specs.declared.Participant.{Participant}
-use Rattle.directory.specs.declared.Found.{Found}
+use Rattle.directory.specs.declared.Listed.{Listed}
 use Rattle.directory.specs.declared.Gathered.{Gathered}
 use Rattle.directory.specs.Directory.{records_most, found, is_fit}
 use Rattle.directory.specs.Gathering.{records_in, directory_in, fit_gathered}
@@ -22,13 +24,13 @@ use Rattle.layout.specs.Rows.{account_row}
 use Rattle.layout.specs.Seat.{seat_long, room_long, head_of, account_of, seat_of, with_seat}
 use Rattle.journal.specs.Steps.{settings_fit}
 use Rattle.journal.specs.Working.{backed}
-use Rattle.seat.specs.declared.calls.Answer as seat
-use Rattle.seat.specs.declared.calls.Answer.TheVariants as seat-answer
-use Rattle.seat.specs.declared.calls.Reading.{Reading}
+use Rattle.seat.specs.declared.calls.Refusal.{Refusal as SeatRefusal}
 use Rattle.seat.specs.declared.settings.Wish.{Wish}
 use Rattle.seat.specs.Fit.{closed_seat, open_seat, room_fits}
 use Rattle.seat.specs.Settings.{settings_of}
 use Rattle.seat.specs.Calls.{
+  Answer as SeatAnswer,
+  gives,
   no_ticket,
   sums_good,
   account_named,
@@ -38,7 +40,6 @@ use Rattle.seat.specs.Calls.{
   set_answer,
   back_answer,
   read_answer,
-  read_value,
   open_after as seat_opened,
   close_after as seat_closed,
   set_after as seat_set,
@@ -46,10 +47,10 @@ use Rattle.seat.specs.Calls.{
 }
 use Rattle.seat.proofs.Rooms.{room-long}
 use Rattle.seat.proofs.Undone.{opening-grows}
-use Rattle.centre.specs.declared.Answer.{Answer}
-use Rattle.centre.specs.declared.Answer.TheVariants.{Done, RoomUnfit, DirectoryUnfit, NoTicket}
+use Rattle.centre.specs.declared.answers.Done.TheVariants.{Plain, Opened, Holds}
+use Rattle.centre.specs.declared.answers.Refusal.TheVariants.{RoomUnfit, DirectoryUnfit, NoTicket}
 use Rattle.centre.specs.declared.Ticket.{Ticket}
-use Rattle.centre.specs.Answers.{refused, is_done, behind, told, seat_told}
+use Rattle.centre.specs.Answers.{Answer, Told, refused, is_done, behind, told, seat_told}
 use Rattle.centre.specs.Calls.{
   no_seat,
   ticket_bad,
@@ -73,24 +74,52 @@ use Rattle.centre.proofs.SeatLent.{Lent, lent_of, back_in, lent-seat, room_back,
 use Rattle.centre.proofs.Listed.{listed-unfit, directory-is-fit, records-fit, gathered-owner}
 use Rattle.centre.proofs.Joined.{close-table, open-table, set-table, back-table, read_table, told_with, room-behind}
 
+-- a call of a seat that is done and gives nothing back
+pub plain-told : (a : SeatAnswer) (u : Unit {0}) → a ≡ Ok u → told (Ok Plain) ≡ seat_told a []
+unfolding told seat_told
+plain-told a u e = rw e
+
+-- one that gives an opening number back
+pub opened-told : (a : SeatAnswer) (u : Unit {0}) (opening : ℕ) → a ≡ Ok u → told (Ok (Opened opening)) ≡ seat_told a (opening ∷ [])
+unfolding told seat_told
+opened-told a u opening e = rw e
+
+-- one that is refused gives nothing back
+pub refused-told : (a : SeatAnswer) (refusal : SeatRefusal) (values : List ℕ) (t : Told) → a ≡ Err refusal → t ≡ seat_told (Err refusal) []
+    → t ≡ seat_told a values
+unfolding seat_told
+refused-told a refusal values t e s = rw e s
+
+-- a read of a seat's account
+pub read-refused : (a : SeatAnswer) (account : Account) (refusal : SeatRefusal) (t : Told) → gives a account ≡ Err refusal
+    → t ≡ seat_told (Err refusal) [] → t ≡ seat_told a (account_row account)
+unfolding seat_told
+read-refused (Ok u) account refusal t e s = absurd cc
+read-refused (Err other) account refusal t e s = let same : other ≡ refusal = cc in rw same s
+
+pub read-holds : (a : SeatAnswer) (account given : Account) → gives a account ≡ Ok given → told (Ok (Holds given)) ≡ seat_told a (account_row account)
+unfolding told seat_told
+read-holds (Ok u) account given e = let same : given ≡ account = cc in rw same
+read-holds (Err other) account given e = absurd cc
+
 -- lay out
-pub lay-refused : (room : List ℕ) → (length room ≡ room_long → ⊥) → (told RoomUnfit ≡ lay_told room) × (room ≡ lay_after room)
+pub lay-refused : (room : List ℕ) → (length room ≡ room_long → ⊥) → (told (Err RoomUnfit) ≡ lay_told room) × (room ≡ lay_after room)
 unfolding told lay_told lay_after behind is_done
 lay-refused room h = (rw (ne_eqb (length room) room_long h), rw (ne_eqb (length room) room_long h))
 
 pub lay_done : (room : List ℕ) → length room ≡ room_long → (u : List ℕ) → u ≡ replicate (length room) 0
-    → (told Done ≡ lay_told room) × (u ≡ lay_after room)
+    → (told (Ok Plain) ≡ lay_told room) × (u ≡ lay_after room)
 unfolding told lay_told lay_after behind is_done
 lay_done room h u e = (rw (eq-eqb (length room) room_long h), rw (eq-eqb (length room) room_long h) (e ∙ ap (λ (n : ℕ). replicate n 0) h))
 
 -- close
 module _ (ticket : Ticket) (room : List ℕ) where
-  pub close-room-unfit : room_fits room ≡ false → (told RoomUnfit ≡ close_told ticket room) × (room ≡ close_after ticket room)
+  pub close-room-unfit : room_fits room ≡ false → (told (Err RoomUnfit) ≡ close_told ticket room) × (room ≡ close_after ticket room)
   unfolding told close_told close_after behind is_done
   close-room-unfit e = (rw e, rw e)
 
   module _ (fit : room_fits room ≡ true) where
-    pub close-no-seat : seats ≤ ticket.seat → (told NoTicket ≡ close_told ticket room) × (room ≡ close_after ticket room)
+    pub close-no-seat : seats ≤ ticket.seat → (told (Err NoTicket) ≡ close_told ticket room) × (room ≡ close_after ticket room)
     unfolding told close_told close_after behind is_done ticket_bad no_seat
     close-no-seat h = (rw (fit, le-leb seats ticket.seat h), rw (fit, le-leb seats ticket.seat h))
 
@@ -105,22 +134,22 @@ module _ (ticket : Ticket) (room : List ℕ) where
           room-behind room ticket.seat (room-long room fit) h (closed_seat (head_of (seat_of room ticket.seat)).opening)
           (close_answer ticket.opening (seat_of room ticket.seat)) [] (close_told ticket room) close-joined
 
-  pub close-end : {from : ℕ} → Lent room ticket.seat from → (r : Answer) (a : seat.Answer) (u : List ℕ)
-      → a ≡ close_answer ticket.opening (lent_of room from) → u ≡ seat_closed ticket.opening (lent_of room from) → told r ≡ seat_told a []
-      → (told r ≡ close_told ticket room) × (back_in room from u ≡ close_after ticket room)
+  pub close-end : {place : Range ℕ} → Lent room ticket.seat place → (r : Answer) (a : SeatAnswer) (u : List ℕ)
+      → a ≡ close_answer ticket.opening (lent_of room place) → u ≡ seat_closed ticket.opening (lent_of room place) → told r ≡ seat_told a []
+      → (told r ≡ close_told ticket room) × (back_in room place u ≡ close_after ticket room)
   close-end l r a u e f t = (
-    t ∙ ap (λ (b : seat.Answer). seat_told b []) (e ∙ ap (close_answer ticket.opening) (lent-seat l)) ∙ close-joined l.fit l.low,
+    t ∙ ap (λ (b : SeatAnswer). seat_told b []) (e ∙ ap (close_answer ticket.opening) (lent-seat l)) ∙ close-joined l.fit l.low,
     room_back l u ∙ ap (with_seat room ticket.seat) (f ∙ ap (seat_closed ticket.opening) (lent-seat l)) ∙ close-put l.fit l.low,
   )
 
 -- take back
 module _ (ticket : Ticket) (room : List ℕ) where
-  pub back-room-unfit : room_fits room ≡ false → (told RoomUnfit ≡ back_told ticket room) × (room ≡ back_after ticket room)
+  pub back-room-unfit : room_fits room ≡ false → (told (Err RoomUnfit) ≡ back_told ticket room) × (room ≡ back_after ticket room)
   unfolding told back_told back_after behind is_done
   back-room-unfit e = (rw e, rw e)
 
   module _ (fit : room_fits room ≡ true) where
-    pub back-no-seat : seats ≤ ticket.seat → (told NoTicket ≡ back_told ticket room) × (room ≡ back_after ticket room)
+    pub back-no-seat : seats ≤ ticket.seat → (told (Err NoTicket) ≡ back_told ticket room) × (room ≡ back_after ticket room)
     unfolding told back_told back_after behind is_done ticket_bad no_seat
     back-no-seat h = (rw (fit, le-leb seats ticket.seat h), rw (fit, le-leb seats ticket.seat h))
 
@@ -137,27 +166,27 @@ module _ (ticket : Ticket) (room : List ℕ) where
           room-behind room ticket.seat (room-long room fit) h (backed (seat_of room ticket.seat))
           (back_answer ticket.opening (seat_of room ticket.seat)) [] (back_told ticket room) back-joined
 
-  pub back_end : {from : ℕ} → Lent room ticket.seat from → (r : Answer) (a : seat.Answer) (u : List ℕ)
-      → a ≡ back_answer ticket.opening (lent_of room from) → u ≡ seat_backed ticket.opening (lent_of room from) → told r ≡ seat_told a []
-      → (told r ≡ back_told ticket room) × (back_in room from u ≡ back_after ticket room)
+  pub back_end : {place : Range ℕ} → Lent room ticket.seat place → (r : Answer) (a : SeatAnswer) (u : List ℕ)
+      → a ≡ back_answer ticket.opening (lent_of room place) → u ≡ seat_backed ticket.opening (lent_of room place) → told r ≡ seat_told a []
+      → (told r ≡ back_told ticket room) × (back_in room place u ≡ back_after ticket room)
   back_end l r a u e f t = (
-    t ∙ ap (λ (b : seat.Answer). seat_told b []) (e ∙ ap (back_answer ticket.opening) (lent-seat l)) ∙ back-joined l.fit l.low,
+    t ∙ ap (λ (b : SeatAnswer). seat_told b []) (e ∙ ap (back_answer ticket.opening) (lent-seat l)) ∙ back-joined l.fit l.low,
     room_back l u ∙ ap (with_seat room ticket.seat) (f ∙ ap (seat_backed ticket.opening) (lent-seat l)) ∙ back-put l.fit l.low,
   )
 
 -- open, over the list of participants
 module _ (dir : List Participant) (k : ℕ) (sums room : List ℕ) where
-  open-room-bad : room_fits room ≡ false → (told RoomUnfit ≡ open_told dir k sums room) × (room ≡ open_after dir k sums room)
+  open-room-bad : room_fits room ≡ false → (told (Err RoomUnfit) ≡ open_told dir k sums room) × (room ≡ open_after dir k sums room)
   unfolding told open_told open_after behind is_done
   open-room-bad e = (rw e, rw e)
 
   module _ (fit : room_fits room ≡ true) where
-    open-dir-bad : is_fit dir ≡ false → (told DirectoryUnfit ≡ open_told dir k sums room) × (room ≡ open_after dir k sums room)
+    open-dir-bad : is_fit dir ≡ false → (told (Err DirectoryUnfit) ≡ open_told dir k sums room) × (room ≡ open_after dir k sums room)
     unfolding told open_told open_after behind is_done
     open-dir-bad e = (rw (fit, e), rw (fit, e))
 
     module _ (listed : is_fit dir ≡ true) where
-      open-seat-bad : seats ≤ k → (told NoTicket ≡ open_told dir k sums room) × (room ≡ open_after dir k sums room)
+      open-seat-bad : seats ≤ k → (told (Err NoTicket) ≡ open_told dir k sums room) × (room ≡ open_after dir k sums room)
       unfolding told open_told open_after behind is_done no_seat
       open-seat-bad h = (rw (fit, listed, le-leb seats k h), rw (fit, listed, le-leb seats k h))
 
@@ -176,18 +205,18 @@ module _ (dir : List Participant) (k : ℕ) (sums room : List ℕ) where
             (open_answer dir sums (seat_of room k)) (suc (head_of (seat_of room k)).opening ∷ []) (open_told dir k sums room) open-joined
 
   -- the head that is read after the call has the new opening number where the call is done
-  open_done : is_fit dir ≡ true → {from : ℕ} → Lent room k from → (r : Answer) (a : seat.Answer) (u : List ℕ) (head : Head)
-      → a ≡ open_answer dir sums (lent_of room from) → u ≡ seat_opened dir sums (lent_of room from) → length u ≡ seat_long
-      → (s : List ℕ) → s ≡ seat_of (back_in room from u) k → head ≡ head_of s → told r ≡ seat_told a (head.opening ∷ [])
-      → (told r ≡ open_told dir k sums room) × (back_in room from u ≡ open_after dir k sums room)
+  open_done : is_fit dir ≡ true → {place : Range ℕ} → Lent room k place → (r : Answer) (a : SeatAnswer) (u : List ℕ) (head : Head)
+      → a ≡ open_answer dir sums (lent_of room place) → u ≡ seat_opened dir sums (lent_of room place) → length u ≡ seat_long
+      → (s : List ℕ) → s ≡ seat_of (back_in room place u) k → head ≡ head_of s → told r ≡ seat_told a (head.opening ∷ [])
+      → (told r ≡ open_told dir k sums room) × (back_in room place u ≡ open_after dir k sums room)
   open_done listed l r a u head e f long s again read t =
       let answer : a ≡ open_answer dir sums (seat_of room k) = e ∙ ap (open_answer dir sums) (lent-seat l) in
       let left : u ≡ seat_opened dir sums (seat_of room k) = f ∙ ap (seat_opened dir sums) (lent-seat l) in
       let now : head ≡ head_of (seat_opened dir sums (seat_of room k)) = read ∙ ap head_of (again ∙ back-seat l u long ∙ left) in (
         t ∙ told_with a (head.opening ∷ []) (suc (head_of (seat_of room k)).opening ∷ [])
-            (λ (d : a ≡ seat-answer.Done). ap (λ (n : ℕ). n ∷ [])
+            (λ (d : a ≡ Ok tt). ap (λ (n : ℕ). n ∷ [])
             (ap (λ (x : Head). x.opening) now ∙ opening-grows dir sums (seat_of room k) (sym answer ∙ d)))
-            ∙ ap (λ (b : seat.Answer). seat_told b (suc (head_of (seat_of room k)).opening ∷ [])) answer
+            ∙ ap (λ (b : SeatAnswer). seat_told b (suc (head_of (seat_of room k)).opening ∷ [])) answer
             ∙ open-joined l.fit listed l.low,
         room_back l u ∙ ap (with_seat room k) left ∙ open-put l.fit listed l.low,
       )
@@ -195,44 +224,44 @@ module _ (dir : List Participant) (k : ℕ) (sums room : List ℕ) where
 -- open, with the directory as it was gathered
 module _ (g : Gathered) (k : ℕ) (sums room : List ℕ) where
   pub open-room-unfit : room_fits room ≡ false
-      → (told RoomUnfit ≡ open_told (directory_in g) k sums room) × (room ≡ open_after (directory_in g) k sums room)
+      → (told (Err RoomUnfit) ≡ open_told (directory_in g) k sums room) × (room ≡ open_after (directory_in g) k sums room)
   open-room-unfit e = open-room-bad (directory_in g) k sums room e
 
   module _ (fit : room_fits room ≡ true) (full : length g.records ≡ records_most) where
     pub open-unlisted : fit_gathered g ≡ false
-        → (told DirectoryUnfit ≡ open_told (directory_in g) k sums room) × (room ≡ open_after (directory_in g) k sums room)
+        → (told (Err DirectoryUnfit) ≡ open_told (directory_in g) k sums room) × (room ≡ open_after (directory_in g) k sums room)
     open-unlisted e = open-dir-bad (directory_in g) k sums room fit (listed-unfit g full e)
 
     module _ (listed : fit_gathered g ≡ true) where
-      pub open-no-seat : seats ≤ k → (told NoTicket ≡ open_told (directory_in g) k sums room) × (room ≡ open_after (directory_in g) k sums room)
+      pub open-no-seat : seats ≤ k → (told (Err NoTicket) ≡ open_told (directory_in g) k sums room) × (room ≡ open_after (directory_in g) k sums room)
       open-no-seat h = open-seat-bad (directory_in g) k sums room fit (directory-is-fit g full listed) h
 
-  pub open-end : length g.records ≡ records_most → fit_gathered g ≡ true → {from : ℕ} → Lent room k from
-      → (r : Answer) (a : seat.Answer) (u : List ℕ) (head : Head)
-      → a ≡ open_answer (records_in g) sums (lent_of room from) → u ≡ seat_opened (records_in g) sums (lent_of room from) → length u ≡ seat_long
-      → (s : List ℕ) → s ≡ seat_of (back_in room from u) k → head ≡ head_of s → told r ≡ seat_told a (head.opening ∷ [])
-      → (told r ≡ open_told (directory_in g) k sums room) × (back_in room from u ≡ open_after (directory_in g) k sums room)
-  open-end full listed {from} l r a u head e f long s again read t =
-      subst (λ (dir : List Participant). (told r ≡ open_told dir k sums room) × (back_in room from u ≡ open_after dir k sums room))
+  pub open-end : length g.records ≡ records_most → fit_gathered g ≡ true → {place : Range ℕ} → Lent room k place
+      → (r : Answer) (a : SeatAnswer) (u : List ℕ) (head : Head)
+      → a ≡ open_answer (records_in g) sums (lent_of room place) → u ≡ seat_opened (records_in g) sums (lent_of room place) → length u ≡ seat_long
+      → (s : List ℕ) → s ≡ seat_of (back_in room place u) k → head ≡ head_of s → told r ≡ seat_told a (head.opening ∷ [])
+      → (told r ≡ open_told (directory_in g) k sums room) × (back_in room place u ≡ open_after (directory_in g) k sums room)
+  open-end full listed {place} l r a u head e f long s again read t =
+      subst (λ (dir : List Participant). (told r ≡ open_told dir k sums room) × (back_in room place u ≡ open_after dir k sums room))
       (sym (directory-records g listed))
       (open_done (records_in g) k sums room (records-fit g full listed) l r a u head e f long s again read t)
 
 -- set, by what was found of the owner in a directory that is fit or not
-module _ (fit : Bool) (owner : Found) (ticket : Ticket) (number : ℕ) (wish : Wish) (room : List ℕ) where
+module _ (fit : Bool) (owner : Option Listed) (ticket : Ticket) (number : ℕ) (wish : Wish) (room : List ℕ) where
   pub set-room-unfit : room_fits room ≡ false
-      → (told RoomUnfit ≡ set_by fit owner ticket number wish room) × (room ≡ set_left fit owner ticket number wish room)
+      → (told (Err RoomUnfit) ≡ set_by fit owner ticket number wish room) × (room ≡ set_left fit owner ticket number wish room)
   unfolding told behind is_done
   set-room-unfit e = (rw e, rw e)
 
   module _ (good : room_fits room ≡ true) where
     pub set-unlisted : fit ≡ false
-        → (told DirectoryUnfit ≡ set_by fit owner ticket number wish room) × (room ≡ set_left fit owner ticket number wish room)
+        → (told (Err DirectoryUnfit) ≡ set_by fit owner ticket number wish room) × (room ≡ set_left fit owner ticket number wish room)
     unfolding told behind is_done
     set-unlisted e = (rw (good, e), rw (good, e))
 
     module _ (listed : fit ≡ true) where
       pub set-no-seat : seats ≤ ticket.seat
-          → (told NoTicket ≡ set_by fit owner ticket number wish room) × (room ≡ set_left fit owner ticket number wish room)
+          → (told (Err NoTicket) ≡ set_by fit owner ticket number wish room) × (room ≡ set_left fit owner ticket number wish room)
       unfolding told behind is_done ticket_bad no_seat
       set-no-seat h = (rw (good, listed, le-leb seats ticket.seat h), rw (good, listed, le-leb seats ticket.seat h))
 
@@ -255,13 +284,13 @@ module _ (fit : Bool) (owner : Found) (ticket : Ticket) (number : ℕ) (wish : W
             (set_answer ticket.opening owner number (settings_of wish) (seat_of room ticket.seat)) []
             (set_by fit owner ticket number wish room) set-joined
 
-  pub set-end : fit ≡ true → {from : ℕ} → Lent room ticket.seat from
-      → (r : Answer) (a : seat.Answer) (u : List ℕ) (given : Settings) → given ≡ settings_of wish
-      → a ≡ set_answer ticket.opening owner number given (lent_of room from)
-      → u ≡ seat_set ticket.opening owner number given (lent_of room from) → told r ≡ seat_told a []
-      → (told r ≡ set_by fit owner ticket number wish room) × (back_in room from u ≡ set_left fit owner ticket number wish room)
+  pub set-end : fit ≡ true → {place : Range ℕ} → Lent room ticket.seat place
+      → (r : Answer) (a : SeatAnswer) (u : List ℕ) (given : Settings) → given ≡ settings_of wish
+      → a ≡ set_answer ticket.opening owner number given (lent_of room place)
+      → u ≡ seat_set ticket.opening owner number given (lent_of room place) → told r ≡ seat_told a []
+      → (told r ≡ set_by fit owner ticket number wish room) × (back_in room place u ≡ set_left fit owner ticket number wish room)
   set-end listed l r a u given q e left t = (
-    t ∙ ap (λ (b : seat.Answer). seat_told b [])
+    t ∙ ap (λ (b : SeatAnswer). seat_told b [])
         (e ∙ ap (set_answer ticket.opening owner number given) (lent-seat l)
         ∙ ap (λ (x : Settings). set_answer ticket.opening owner number x (seat_of room ticket.seat)) q)
         ∙ set-joined l.fit listed l.low,
@@ -280,52 +309,46 @@ refused-both true made other came = refl
 refused-both false made other came = refl
 
 module _ (ticket : Ticket) (number : ℕ) (wish : Wish) (room : List ℕ) where
-  set-told-same : (fit : Bool) (f owner : Found) → (fit ≡ true → f ≡ owner)
+  set-told-same : (fit : Bool) (f owner : Option Listed) → (fit ≡ true → f ≡ owner)
       → set_by fit f ticket number wish room ≡ set_by fit owner ticket number wish room
-  set-told-same true f owner e = ap (λ (x : Found). set_by true x ticket number wish room) (e refl)
+  set-told-same true f owner e = ap (λ (x : Option Listed). set_by true x ticket number wish room) (e refl)
   set-told-same false f owner e = refl
 
-  set-left-same : (fit : Bool) (f owner : Found) → (fit ≡ true → f ≡ owner)
+  set-left-same : (fit : Bool) (f owner : Option Listed) → (fit ≡ true → f ≡ owner)
       → set_left fit f ticket number wish room ≡ set_left fit owner ticket number wish room
-  set-left-same true f owner e = ap (λ (x : Found). set_left true x ticket number wish room) (e refl)
+  set-left-same true f owner e = ap (λ (x : Option Listed). set_left true x ticket number wish room) (e refl)
   set-left-same false f owner e =
       refused-both (room_fits room)
       (with_seat room ticket.seat (set_in (account_number f number) wish (seat_of room ticket.seat)))
       (with_seat room ticket.seat (set_in (account_number owner number) wish (seat_of room ticket.seat))) room
 
   -- set, with the directory as it was gathered
-  pub set-gathered : (g : Gathered) → length g.records ≡ records_most → (owner : ℕ) (fit : Bool) (f : Found) → fit ≡ fit_gathered g
+  pub set-gathered : (g : Gathered) → length g.records ≡ records_most → (owner : ℕ) (fit : Bool) (f : Option Listed) → fit ≡ fit_gathered g
       → f ≡ found (records_in g) owner → (r : Answer) (u : List ℕ)
       → (told r ≡ set_by fit f ticket number wish room) × (u ≡ set_left fit f ticket number wish room)
       → (told r ≡ set_told (directory_in g) ticket owner number wish room) × (u ≡ set_after (directory_in g) ticket owner number wish room)
   unfolding set_told set_after
   set-gathered g full owner fit f p q r u e =
-      let owned : Found = found (directory_in g) owner in
+      let owned : (Option Listed) = found (directory_in g) owner in
       let same : fit ≡ is_fit (directory_in g) = p ∙ directory-fit g full in
       let known : fit ≡ true → f ≡ owned = gathered-owner g owner fit f p q in (
         e.0 ∙ set-told-same fit f owned known ∙ ap (λ (b : Bool). set_by b owned ticket number wish room) same,
         e.1 ∙ set-left-same fit f owned known ∙ ap (λ (b : Bool). set_left b owned ticket number wish room) same,
       )
 
--- a read that is done reads the account
-read-account-is : (opening : ℕ) (owner : Found) (number : ℕ) (s : List ℕ) → read_answer opening owner number s ≡ seat-answer.Done
-    → read_value opening owner number s ≡ account_of s (account_number owner number)
-unfolding read_value
-read-account-is opening owner number s d = rw d
-
 -- read, by what was found of the owner in a directory that is fit or not
-module _ (fit : Bool) (owner : Found) (ticket : Ticket) (number : ℕ) (room : List ℕ) where
-  pub read-room-unfit : room_fits room ≡ false → told RoomUnfit ≡ read_by fit owner ticket number room
+module _ (fit : Bool) (owner : Option Listed) (ticket : Ticket) (number : ℕ) (room : List ℕ) where
+  pub read-room-unfit : room_fits room ≡ false → told (Err RoomUnfit) ≡ read_by fit owner ticket number room
   unfolding told
   read-room-unfit e = rw e
 
   module _ (good : room_fits room ≡ true) where
-    pub read-unlisted : fit ≡ false → told DirectoryUnfit ≡ read_by fit owner ticket number room
+    pub read-unlisted : fit ≡ false → told (Err DirectoryUnfit) ≡ read_by fit owner ticket number room
     unfolding told
     read-unlisted e = rw (good, e)
 
     module _ (listed : fit ≡ true) where
-      pub read-no-seat : seats ≤ ticket.seat → told NoTicket ≡ read_by fit owner ticket number room
+      pub read-no-seat : seats ≤ ticket.seat → told (Err NoTicket) ≡ read_by fit owner ticket number room
       unfolding told ticket_bad no_seat
       read-no-seat h = rw (good, listed, le-leb seats ticket.seat h)
 
@@ -340,32 +363,25 @@ module _ (fit : Bool) (owner : Found) (ticket : Ticket) (number : ℕ) (room : L
             rw (good, listed, lt-leb seats ticket.seat h)
             (read_table (no_ticket ticket.opening (seat_of room ticket.seat)) (not (account_named owner number)) (account_row account_read))
 
-        pub read-end : (s : List ℕ) → s ≡ seat_of room ticket.seat → (r : Answer) (x : Reading)
-            → x ≡ record { answer = read_answer ticket.opening owner number s; account = read_value ticket.opening owner number s }
-            → told r ≡ seat_told x.answer (account_row x.account) → told r ≡ read_by fit owner ticket number room
-        read-end s here r x e t =
-            let answer : x.answer ≡ read_answer ticket.opening owner number (seat_of room ticket.seat) =
-            ap (λ (y : Reading). y.answer) e ∙ ap (read_answer ticket.opening owner number) here in
-            let account : x.account ≡ read_value ticket.opening owner number (seat_of room ticket.seat) =
-            ap (λ (y : Reading). y.account) e ∙ ap (read_value ticket.opening owner number) here in
-            t ∙ told_with x.answer (account_row x.account) (account_row account_read)
-            (λ (d : x.answer ≡ seat-answer.Done).
-            ap account_row (account ∙ read-account-is ticket.opening owner number (seat_of room ticket.seat) (sym answer ∙ d)))
-            ∙ ap (λ (b : seat.Answer). seat_told b (account_row account_read)) answer
+        pub read-end : (s : List ℕ) → s ≡ seat_of room ticket.seat → (r : Answer)
+            → told r ≡ seat_told (read_answer ticket.opening owner number s) (account_row (account_of s (account_number owner number)))
+            → told r ≡ read_by fit owner ticket number room
+        read-end s here r t =
+            t ∙ ap (λ (x : List ℕ). seat_told (read_answer ticket.opening owner number x) (account_row (account_of x (account_number owner number)))) here
             ∙ read-joined
 
 module _ (ticket : Ticket) (number : ℕ) (room : List ℕ) where
-  read-told-same : (fit : Bool) (f owner : Found) → (fit ≡ true → f ≡ owner)
+  read-told-same : (fit : Bool) (f owner : Option Listed) → (fit ≡ true → f ≡ owner)
       → read_by fit f ticket number room ≡ read_by fit owner ticket number room
-  read-told-same true f owner e = ap (λ (x : Found). read_by true x ticket number room) (e refl)
+  read-told-same true f owner e = ap (λ (x : Option Listed). read_by true x ticket number room) (e refl)
   read-told-same false f owner e = refl
 
   -- read, with the directory as it was gathered
-  pub read-gathered : (g : Gathered) → length g.records ≡ records_most → (owner : ℕ) (fit : Bool) (f : Found) → fit ≡ fit_gathered g
+  pub read-gathered : (g : Gathered) → length g.records ≡ records_most → (owner : ℕ) (fit : Bool) (f : Option Listed) → fit ≡ fit_gathered g
       → f ≡ found (records_in g) owner → (r : Answer) → told r ≡ read_by fit f ticket number room
       → told r ≡ read_told (directory_in g) ticket owner number room
   unfolding read_told
   read-gathered g full owner fit f p q r e =
-      let owned : Found = found (directory_in g) owner in
+      let owned : (Option Listed) = found (directory_in g) owner in
       e ∙ read-told-same fit f owned (gathered-owner g owner fit f p q)
       ∙ ap (λ (b : Bool). read_by b owned ticket number room) (p ∙ directory-fit g full)

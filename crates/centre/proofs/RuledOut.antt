@@ -31,7 +31,9 @@ use Rattle.seat.specs.Fit.{closed_seat, room_fits}
 use Rattle.seat.specs.Settings.{settings_of}
 use Rattle.seat.specs.Calls.{sums_good, account_named, account_number, set_step}
 use Rattle.seat.proofs.Answered.{ticket-good}
-use Rattle.centre.specs.declared.Answer.TheVariants.{Done, Opened, Holds, Says, RoomUnfit}
+use Rattle.std.specs.Prelude.{Ok, Err}
+use Rattle.centre.specs.declared.answers.Done.TheVariants.{Plain, Opened, Holds, Says}
+use Rattle.centre.specs.declared.answers.Refusal.TheVariants.{RoomUnfit}
 use Rattle.centre.specs.declared.Ticket.{Ticket}
 use Rattle.centre.specs.Answers.{Told, told, done, refused, is_done, slip_values}
 use Rattle.centre.specs.Calls.{no_seat, ticket_bad, lay_told, open_told, close_told, close_after, set_told, set_in, set_after, back_told, back_after, read_told}
@@ -47,13 +49,13 @@ slip_from v = record { kind = get_or v 0 0; status = get_or v 1 0; check = get_o
 
 -- lay out
 module _ (room : List ℕ) where
-  pub lays-out-any-length : (length room ≡ room_long → ⊥) → told Done ≡ lay_told room → ⊥
+  pub lays-out-any-length : (length room ≡ room_long → ⊥) → told (Ok Plain) ≡ lay_told room → ⊥
   unfolding told lay_told
   lays-out-any-length h e =
-      let tests = (all-passed ((not (eqb (length room) room_long), refused 1) ∷ []) (done []) (told Done) refl e).0 in
+      let tests = (all-passed ((not (eqb (length room) room_long), refused 1) ∷ []) (done []) (told (Ok Plain)) refl e).0 in
       h (eqb-true (length room) room_long (not-false (eqb (length room) room_long) tests.0))
 
-  pub refuses-every-room : length room ≡ room_long → told RoomUnfit ≡ lay_told room → ⊥
+  pub refuses-every-room : length room ≡ room_long → told (Err RoomUnfit) ≡ lay_told room → ⊥
   unfolding told is_done
   refuses-every-room l e = false≢true (ap is_done (e ∙ sym (lay_done room l (replicate (length room) 0) refl).0))
 
@@ -69,15 +71,15 @@ module _ (dir : List Participant) (seat : ℕ) (sums room : List ℕ) where
       ∷ (not (sums_good dir sums), refused 6)
       ∷ []
 
-  open-passed : (n : ℕ) → told (Opened n) ≡ open_told dir seat sums room
-      → AllPass open_tests × (told (Opened n) ≡ done (suc (head_of (seat_of room seat)).opening ∷ []))
+  open-passed : (n : ℕ) → told (Ok (Opened n)) ≡ open_told dir seat sums room
+      → AllPass open_tests × (told (Ok (Opened n)) ≡ done (suc (head_of (seat_of room seat)).opening ∷ []))
   unfolding told open_told
-  open-passed n e = all-passed open_tests (done (suc (head_of (seat_of room seat)).opening ∷ [])) (told (Opened n)) refl e
+  open-passed n e = all-passed open_tests (done (suc (head_of (seat_of room seat)).opening ∷ [])) (told (Ok (Opened n))) refl e
 
-  pub opens-an-open-seat : (head_of (seat_of room seat)).opened ≡ 1 → (n : ℕ) → told (Opened n) ≡ open_told dir seat sums room → ⊥
+  pub opens-an-open-seat : (head_of (seat_of room seat)).opened ≡ 1 → (n : ℕ) → told (Ok (Opened n)) ≡ open_told dir seat sums room → ⊥
   opens-an-open-seat h n e = eqb-false (head_of (seat_of room seat)).opened 1 (open-passed n e).0.1.1.1.0 h
 
-  pub gives-the-old-number : told (Opened (head_of (seat_of room seat)).opening) ≡ open_told dir seat sums room → ⊥
+  pub gives-the-old-number : told (Ok (Opened (head_of (seat_of room seat)).opening)) ≡ open_told dir seat sums room → ⊥
   unfolding told
   gives-the-old-number e =
       let n : ℕ = (head_of (seat_of room seat)).opening in
@@ -86,23 +88,23 @@ module _ (dir : List Participant) (seat : ℕ) (sums room : List ℕ) where
 
 -- close
 module _ (ticket : Ticket) (room : List ℕ) where
-  close_passed : told Done ≡ close_told ticket room → (not (room_fits room) ≡ false) × (ticket_bad ticket room ≡ false)
+  close_passed : told (Ok Plain) ≡ close_told ticket room → (not (room_fits room) ≡ false) × (ticket_bad ticket room ≡ false)
   unfolding told close_told
   close_passed e =
-      let tests = (all-passed ((not (room_fits room), refused 1) ∷ (ticket_bad ticket room, refused 3) ∷ []) (done []) (told Done) refl e).0 in
+      let tests = (all-passed ((not (room_fits room), refused 1) ∷ (ticket_bad ticket room, refused 3) ∷ []) (done []) (told (Ok Plain)) refl e).0 in
       (tests.0, tests.1.0)
 
-  pub closes-for-any-ticket : ticket_bad ticket room ≡ true → told Done ≡ close_told ticket room → ⊥
+  pub closes-for-any-ticket : ticket_bad ticket room ≡ true → told (Ok Plain) ≡ close_told ticket room → ⊥
   closes-for-any-ticket h e = false≢true (sym (close_passed e).1 ∙ h)
 
-  close-made : told Done ≡ close_told ticket room
+  close-made : told (Ok Plain) ≡ close_told ticket room
       → close_after ticket room ≡ with_seat room ticket.seat (closed_seat (head_of (seat_of room ticket.seat)).opening)
   unfolding close_after told is_done
   close-made e =
       behind-done (close_told ticket room) (with_seat room ticket.seat (closed_seat (head_of (seat_of room ticket.seat)).opening)) room
       (ap is_done (sym e))
 
-  pub leaves-the-seat-open : told Done ≡ close_told ticket room → room ≡ close_after ticket room → ⊥
+  pub leaves-the-seat-open : told (Ok Plain) ≡ close_told ticket room → room ≡ close_after ticket room → ⊥
   unfolding closed_seat
   leaves-the-seat-open e same =
       let s : List ℕ = seat_of room ticket.seat in
@@ -125,21 +127,21 @@ module _ (dir : List Participant) (ticket : Ticket) (owner number : ℕ) (wish :
       ∷ (eqb (head_of (seat_of room ticket.seat)).steps steps, refused 9)
       ∷ []
 
-  set-passed : told Done ≡ set_told dir ticket owner number wish room → AllPass set_tests
+  set-passed : told (Ok Plain) ≡ set_told dir ticket owner number wish room → AllPass set_tests
   unfolding told set_told
-  set-passed e = (all-passed set_tests (done []) (told Done) refl e).0
+  set-passed e = (all-passed set_tests (done []) (told (Ok Plain)) refl e).0
 
-  pub sets-in-a-full-journal : (head_of (seat_of room ticket.seat)).steps ≡ steps → told Done ≡ set_told dir ticket owner number wish room → ⊥
+  pub sets-in-a-full-journal : (head_of (seat_of room ticket.seat)).steps ≡ steps → told (Ok Plain) ≡ set_told dir ticket owner number wish room → ⊥
   sets-in-a-full-journal h e = eqb-false (head_of (seat_of room ticket.seat)).steps steps (set-passed e).1.1.1.1.0 h
 
   abbrev seat_set : List ℕ
   seat_set = set_in (account_number (found dir owner) number) wish (seat_of room ticket.seat)
 
-  set-made : told Done ≡ set_told dir ticket owner number wish room → set_after dir ticket owner number wish room ≡ with_seat room ticket.seat seat_set
+  set-made : told (Ok Plain) ≡ set_told dir ticket owner number wish room → set_after dir ticket owner number wish room ≡ with_seat room ticket.seat seat_set
   unfolding set_told set_after told is_done
   set-made e = behind-done (set_told dir ticket owner number wish room) (with_seat room ticket.seat seat_set) room (ap is_done (sym e))
 
-  pub sets-without-a-step : told Done ≡ set_told dir ticket owner number wish room → room ≡ set_after dir ticket owner number wish room → ⊥
+  pub sets-without-a-step : told (Ok Plain) ≡ set_told dir ticket owner number wish room → room ≡ set_after dir ticket owner number wish room → ⊥
   unfolding set_in
   sets-without-a-step e same =
       let account : ℕ = account_number (found dir owner) number in
@@ -156,18 +158,18 @@ module _ (ticket : Ticket) (room : List ℕ) where
       ∷ (eqb (head_of (seat_of room ticket.seat)).steps 0, refused 10)
       ∷ []
 
-  back-passed : told Done ≡ back_told ticket room → AllPass back_tests
+  back-passed : told (Ok Plain) ≡ back_told ticket room → AllPass back_tests
   unfolding told back_told
-  back-passed e = (all-passed back_tests (done []) (told Done) refl e).0
+  back-passed e = (all-passed back_tests (done []) (told (Ok Plain)) refl e).0
 
-  pub takes-back-nothing : (head_of (seat_of room ticket.seat)).steps ≡ 0 → told Done ≡ back_told ticket room → ⊥
+  pub takes-back-nothing : (head_of (seat_of room ticket.seat)).steps ≡ 0 → told (Ok Plain) ≡ back_told ticket room → ⊥
   takes-back-nothing h e = eqb-false (head_of (seat_of room ticket.seat)).steps 0 (back-passed e).1.1.0 h
 
-  back-made : told Done ≡ back_told ticket room → back_after ticket room ≡ with_seat room ticket.seat (backed (seat_of room ticket.seat))
+  back-made : told (Ok Plain) ≡ back_told ticket room → back_after ticket room ≡ with_seat room ticket.seat (backed (seat_of room ticket.seat))
   unfolding back_after told is_done
   back-made e = behind-done (back_told ticket room) (with_seat room ticket.seat (backed (seat_of room ticket.seat))) room (ap is_done (sym e))
 
-  pub leaves-the-step : told Done ≡ back_told ticket room → room ≡ back_after ticket room → ⊥
+  pub leaves-the-step : told (Ok Plain) ≡ back_told ticket room → room ≡ back_after ticket room → ⊥
   unfolding backed with_head put
   leaves-the-step e same =
       let s : List ℕ = seat_of room ticket.seat in
@@ -191,47 +193,47 @@ module _ (dir : List Participant) (ticket : Ticket) (owner number : ℕ) (room :
   abbrev account_read : Account
   account_read = account_of (seat_of room ticket.seat) (account_number (found dir owner) number)
 
-  read-passed : (a : Account) → told (Holds a) ≡ read_told dir ticket owner number room
-      → AllPass read_tests × (told (Holds a) ≡ done (account_row account_read))
+  read-passed : (a : Account) → told (Ok (Holds a)) ≡ read_told dir ticket owner number room
+      → AllPass read_tests × (told (Ok (Holds a)) ≡ done (account_row account_read))
   unfolding told read_told
-  read-passed a e = all-passed read_tests (done (account_row account_read)) (told (Holds a)) refl e
+  read-passed a e = all-passed read_tests (done (account_row account_read)) (told (Ok (Holds a))) refl e
 
-  pub reads-a-branch : owner_found (found dir owner) ≡ false → (a : Account) → told (Holds a) ≡ read_told dir ticket owner number room → ⊥
+  pub reads-a-branch : owner_found (found dir owner) ≡ false → (a : Account) → told (Ok (Holds a)) ≡ read_told dir ticket owner number room → ⊥
   unfolding account_named
   reads-a-branch h a e =
       let named : account_named (found dir owner) number ≡ true = not-false (account_named (found dir owner) number) (read-passed a e).0.1.1.1.0 in
       false≢true (sym h ∙ and_left (owner_found (found dir owner)) (eqb number 1 || eqb number 2) named)
 
-  pub reads-another-account : (a : Account) → (a ≡ account_read → ⊥) → told (Holds a) ≡ read_told dir ticket owner number room → ⊥
+  pub reads-another-account : (a : Account) → (a ≡ account_read → ⊥) → told (Ok (Holds a)) ≡ read_told dir ticket owner number room → ⊥
   unfolding told
   reads-another-account a h e =
       h (sym (account-read a) ∙ ap (λ (t : Told). account_in t.values) (read-passed a e).1 ∙ account-read account_read)
 
 -- write a slip
 module _ (slip : Slip) (buffer : List ℕ) where
-  write-passed : told Done ≡ slips.write_told slip buffer → can_write slip buffer ≡ true
+  write-passed : told (Ok Plain) ≡ slips.write_told slip buffer → can_write slip buffer ≡ true
   unfolding told slips.write_told
-  write-passed e = not-false (can_write slip buffer) (all-passed ((not (can_write slip buffer), refused 11) ∷ []) (done []) (told Done) refl e).0.0
+  write-passed e = not-false (can_write slip buffer) (all-passed ((not (can_write slip buffer), refused 11) ∷ []) (done []) (told (Ok Plain)) refl e).0.0
 
-  pub writes-into-five-bytes : length buffer < slip_long → told Done ≡ slips.write_told slip buffer → ⊥
+  pub writes-into-five-bytes : length buffer < slip_long → told (Ok Plain) ≡ slips.write_told slip buffer → ⊥
   writes-into-five-bytes h e =
       let long : slip_long ≤ length buffer = writable-long slip buffer (write-passed e) in
       omega arith
 
-  pub writes-what-no-slip-says : is_slip slip ≡ false → told Done ≡ slips.write_told slip buffer → ⊥
+  pub writes-what-no-slip-says : is_slip slip ≡ false → told (Ok Plain) ≡ slips.write_told slip buffer → ⊥
   writes-what-no-slip-says h e = false≢true (sym h ∙ writable slip buffer (write-passed e))
 
 -- read a slip
 module _ (bytes : List ℕ) (slip : Slip) where
-  slip-passed : told (Says slip) ≡ slips.read_told bytes → (holds_slip bytes ≡ true) × (told (Says slip) ≡ done (slip_values (slip_of bytes)))
+  slip-passed : told (Ok (Says slip)) ≡ slips.read_told bytes → (holds_slip bytes ≡ true) × (told (Ok (Says slip)) ≡ done (slip_values (slip_of bytes)))
   unfolding told slips.read_told
   slip-passed e =
-      let tests = all-passed ((not (holds_slip bytes), refused 11) ∷ []) (done (slip_values (slip_of bytes))) (told (Says slip)) refl e in
+      let tests = all-passed ((not (holds_slip bytes), refused 11) ∷ []) (done (slip_values (slip_of bytes))) (told (Ok (Says slip))) refl e in
       (not-false (holds_slip bytes) tests.0.0, tests.1)
 
-  pub reads-another-length : (length bytes ≡ five_bytes.long → ⊥) → (length bytes ≡ six_bytes.long → ⊥) → told (Says slip) ≡ slips.read_told bytes → ⊥
+  pub reads-another-length : (length bytes ≡ five_bytes.long → ⊥) → (length bytes ≡ six_bytes.long → ⊥) → told (Ok (Says slip)) ≡ slips.read_told bytes → ⊥
   reads-another-length five six e = holds-long bytes (slip-passed e).0 five six
 
-  pub reads-other-values : (slip ≡ slip_of bytes → ⊥) → told (Says slip) ≡ slips.read_told bytes → ⊥
+  pub reads-other-values : (slip ≡ slip_of bytes → ⊥) → told (Ok (Says slip)) ≡ slips.read_told bytes → ⊥
   unfolding told slip_values
   reads-other-values h e = h (ap (λ (t : Told). slip_from t.values) (slip-passed e).1)

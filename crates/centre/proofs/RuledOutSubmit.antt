@@ -3,7 +3,7 @@
 -- where they are the same.
 -- Assumes nothing.
 use mathlib.Core.Path.{◌≡◌, refl, sym, ap, ◌∙◌}
-use mathlib.Core.Bool.{Bool, true, false, ◌&&◌, ◌||◌, not, cond, false≢true}
+use mathlib.Core.Bool.{Bool, true, false, ◌&&◌, not, cond, false≢true}
 use mathlib.Core.List.{List, [], ◌∷◌, ◌++◌}
 use Prim.Native.Nat.{ℕ, suc, ◌+◌, ◌≤◌}
 use native.Mathlib.Omega.{arith}
@@ -22,8 +22,8 @@ use Rattle.slip.specs.Image.{Fits, image, slip_of as slip_read}
 use Rattle.slip.specs.Answers.{can_write}
 use Rattle.slip.proofs.Exact.{image-first, image-back, written-fits, writable}
 use Rattle.message.specs.declared.Message.{Message}
-use Rattle.message.specs.declared.Answer.{Answer}
-use Rattle.message.specs.declared.Answer.TheVariants.{IllFormed, BadField, Good}
+use Rattle.message.specs.declared.Refusal.TheVariants.{IllFormed, BadField}
+use Rattle.message.specs.Message.{Answer}
 use Rattle.message.specs.Received.{received_of}
 use Rattle.message.specs.Lowest.{number_of}
 use Rattle.directory.specs.declared.Participant.{Participant}
@@ -45,7 +45,9 @@ use Rattle.judge.specs.Case.{Arises, case_of}
 use Rattle.judge.specs.Rows.{asked_after}
 use Rattle.judge.specs.Verdict.{verdict, transferred, sent, told_of, end_of, outcome, step_made, step_by, judged_step}
 use Rattle.judge.proofs.Possible.{judged-possible}
-use Rattle.centre.specs.declared.Answer.TheVariants.{Done, NotTaken}
+use Rattle.std.specs.Prelude.{Ok, Err}
+use Rattle.centre.specs.declared.answers.Done.TheVariants.{Plain}
+use Rattle.centre.specs.declared.answers.Refusal.TheVariants.{NotTaken}
 use Rattle.centre.specs.declared.Ticket.{Ticket}
 use Rattle.centre.specs.Answers.{Told, told, done, refused, refused_with, is_done}
 use Rattle.centre.specs.Calls.{ticket_bad}
@@ -78,10 +80,10 @@ same_number ticket m n x rest good low e =
     sym (step-number ticket n x) ∙ ap (λ (z : Slip). z.step) whole ∙ step-number ticket m x
 
 -- an answer that is neither 7 nor 8 is a message
-good-message : (a : Answer) → eqb (number_of a).0 7 ≡ false → eqb (number_of a).0 8 ≡ false → ((m : Message) → a ≡ Good m → ⊥) → ⊥
-good-message (IllFormed place) p q f = false≢true (sym p)
-good-message (BadField number) p q f = false≢true (sym q)
-good-message (Good m) p q f = f m refl
+good-message : (a : Answer) → eqb (number_of a).0 7 ≡ false → eqb (number_of a).0 8 ≡ false → ((m : Message) → a ≡ Ok m → ⊥) → ⊥
+good-message (Err (IllFormed place)) p q f = false≢true (sym p)
+good-message (Err (BadField number)) p q f = false≢true (sym q)
+good-message (Ok m) p q f = f m refl
 
 -- a transfer that passes every check does not end as RJCT
 passed-end : (kind : Kind) (tells : Outcome) → (kind ≡ Pacs028 → ⊥) → (end_of kind 0 tells).status ≡ status_number Rjct → ⊥
@@ -118,18 +120,18 @@ module _ (dir : List Participant) (ticket : Ticket) (sender today : ℕ) (sheet 
   abbrev failed : ℕ
   failed = verdict_on (case_of dir sender today) answer_here seat_here
 
-  refuses-all : failed ≡ 0 → (k : ℕ) → told (NotTaken k) ≡ submit_told dir ticket sender today sheet slip room → ⊥
+  refuses-all : failed ≡ 0 → (k : ℕ) → told (Err (NotTaken k)) ≡ submit_told dir ticket sender today sheet slip room → ⊥
   unfolding told submit_told not_taken
   refuses-all h k e =
-      let last = (all-passed (submit_tests []) (cond (not_taken failed) (refused_with 12 failed) (done [])) (told (NotTaken k)) refl e).1 in
-      let over : told (NotTaken k) ≡ done [] = rw h at last in
+      let last = (all-passed (submit_tests []) (cond (not_taken failed) (refused_with 12 failed) (done [])) (told (Err (NotTaken k))) refl e).1 in
+      let over : told (Err (NotTaken k)) ≡ done [] = rw h at last in
       let none : ◌≡◌ {A = ℕ} 12 0 = ap (λ (t : Told). t.number) over in
       omega arith
 
-  module _ (e : told Done ≡ submit_told dir ticket sender today sheet slip room) where
+  module _ (e : told (Ok Plain) ≡ submit_told dir ticket sender today sheet slip room) where
     tests : AllPass (submit_tests ((not_taken failed, refused_with 12 failed) ∷ []))
     unfolding told submit_told
-    tests = (all-passed (submit_tests ((not_taken failed, refused_with 12 failed) ∷ [])) (done []) (told Done) refl e).0
+    tests = (all-passed (submit_tests ((not_taken failed, refused_with 12 failed) ∷ [])) (done []) (told (Ok Plain)) refl e).0
 
     fit : room_fits room ≡ true
     fit = not-false (room_fits room) tests.0
@@ -175,11 +177,11 @@ module _ (dir : List Participant) (ticket : Ticket) (sender today : ℕ) (sheet 
     }
 
     -- the right slip is a slip
-    module _ (m : Message) (f : answer_here ≡ Good m) where
+    module _ (m : Message) (f : answer_here ≡ Ok m) where
       abbrev case_here : Case
       case_here = case_of dir sender today m
 
-      not-refused : (eqb (verdict case_here seat_here) 1 || eqb (verdict case_here seat_here) 2) ≡ false
+      not-refused : not_taken (verdict case_here seat_here) ≡ false
       unfolding not_taken verdict_on
       not-refused = rw f at tests.1.1.1.1.1.1.1.1.0
 
@@ -235,14 +237,14 @@ module _ (dir : List Participant) (ticket : Ticket) (sender today : ℕ) (sheet 
         → n ≤ steps → ⊥
     invented-step-number n h written low =
         good-message answer_here tests.1.1.1.1.1.1.0 tests.1.1.1.1.1.1.1.0
-        (λ (m : Message) (f : answer_here ≡ Good m).
+        (λ (m : Message) (f : answer_here ≡ Ok m).
         h (same_number ticket (suc (head_of seat_here).steps) n (step_on (case_of dir sender today) answer_here seat_here) (drop slip_long slip) (right-slip m f) low
         (written ∙ slip-made)))
 
   -- a centre that rejects all: it refuses by 12 what passes every check, or records a transfer that does as RJCT
   pub rejects-all : failed ≡ 0
-      → ((k : ℕ) → told (NotTaken k) ≡ submit_told dir ticket sender today sheet slip room → ⊥)
-      × ((m : Message) → answer_here ≡ Good m → (m.kind ≡ Pacs028 → ⊥) → told Done ≡ submit_told dir ticket sender today sheet slip room
+      → ((k : ℕ) → told (Err (NotTaken k)) ≡ submit_told dir ticket sender today sheet slip room → ⊥)
+      × ((m : Message) → answer_here ≡ Ok m → (m.kind ≡ Pacs028 → ⊥) → told (Ok Plain) ≡ submit_told dir ticket sender today sheet slip room
       → (left : List ℕ) → left ≡ submit_after dir ticket sender today sheet slip room
       → (step_of (seat_of left ticket.seat) (head_of seat_here).steps).status ≡ status_number Rjct → ⊥)
   unfolding verdict_on case_of

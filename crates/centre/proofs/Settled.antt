@@ -5,8 +5,7 @@ use mathlib.Core.Path.{◌≡◌}
 use mathlib.Core.List.{List}
 use Prim.Native.Nat.{ℕ}
 use Rattle.shape.proofs.Single.{Settled, SettledWith, by-equation}
-use Rattle.centre.specs.declared.Answer.{Answer}
-use Rattle.centre.specs.Answers.{Told, told}
+use Rattle.centre.specs.Answers.{Answer, Told, told}
 use Rattle.centre.proofs.Told.{told-one}
 use Rattle.centre.proofs.calls.lay_out.Kinds as lay-out-kinds
 use Rattle.centre.proofs.calls.lay_out.Reads as lay-out-reads
@@ -42,6 +41,10 @@ use Rattle.centre.proofs.lent.read_account.Kinds as read-account-kinds
 use Rattle.centre.proofs.lent.read_account.Reads as read-account-reads
 use Rattle.centre.proofs.lent.submit_sheet.Kinds as submit-sheet-kinds
 use Rattle.centre.proofs.lent.submit_sheet.Reads as submit-sheet-reads
+use Rattle.centre.proofs.answers.Refusal.number.Kinds as number-kinds
+use Rattle.centre.proofs.answers.Refusal.number.Reads as number-reads
+use Rattle.centre.proofs.answers.Refusal.detail.Kinds as detail-kinds
+use Rattle.centre.proofs.answers.Refusal.detail.Reads as detail-reads
 
 -- a contract that says what is told of the answer settles the answer
 pub by-told : {t : Told} (x y : Answer) → told x ≡ t → told y ≡ t → x ≡ y
@@ -113,3 +116,10 @@ pub submit-sheet : SettledWith _ submit-sheet-kinds.ps submit-sheet-kinds.r subm
     (λ κs e. (e.0.now, e.1.1.1.1.1.1.0.now))
 submit-sheet κs a x y e f p q =
     (by-told x y p.0 q.0, two (by-equation p.1.0 q.1.0) (by-equation p.1.1 q.1.1))
+
+-- of the two numbers that a refusal is told by
+pub number-of-refusal : Settled _ number-kinds.ps number-kinds.r number-reads.Post
+number-of-refusal κs a x y e f = by-equation
+
+pub detail-of-refusal : Settled _ detail-kinds.ps detail-kinds.r detail-reads.Post
+detail-of-refusal κs a x y e f = by-equation

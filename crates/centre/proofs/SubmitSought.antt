@@ -12,8 +12,9 @@ use borrow.Author.Tests.{leb-true}
 use Rattle.shape.specs.Dates.{is_date}
 use Rattle.shape.proofs.Tests.{and_left}
 use Rattle.message.specs.declared.Message.{Message}
-use Rattle.message.specs.declared.Answer.{Answer}
-use Rattle.message.specs.declared.Answer.TheVariants.{IllFormed, BadField, Good}
+use Rattle.std.specs.Prelude.{Ok, Err}
+use Rattle.message.specs.declared.Refusal.TheVariants.{IllFormed, BadField}
+use Rattle.message.specs.Message.{Answer}
 use Rattle.message.specs.Received.{received_of}
 use Rattle.directory.specs.declared.Participant.{Participant}
 use Rattle.directory.specs.declared.Gathered.{Gathered}
@@ -35,7 +36,7 @@ use Rattle.centre.proofs.LentDirectories.{unfit-behind}
 
 -- what was looked up for a message arises, and both owners have a place that a seat has
 module _ {fit : Bool} {looked : Looked} {sender : ℕ} {received : Answer} (w : Sought fit looked sender received) (t : fit ≡ true)
-    (m : Message) (f : received ≡ Good m) where
+    (m : Message) (f : received ≡ Ok m) where
   pub sought-arises : (today : ℕ) → (leb sender code_most && is_date today) ≡ true → Arises (case_from looked sender today m)
   unfolding case_of
   sought-arises today n = record {
@@ -59,26 +60,26 @@ module _ (ticket : Ticket) (sender today : ℕ) (slip room : List ℕ) (dir : Li
   directory-case = case_of dir sender today
 
   -- a fit directory
-  told_same : (received : Answer) → ((m : Message) → received ≡ Good m → looked ≡ looked_up dir sender m)
+  told_same : (received : Answer) → ((m : Message) → received ≡ Ok m → looked ≡ looked_up dir sender m)
       → submit_by true sought-case ticket sender today received slip room ≡ submit_by true directory-case ticket sender today received slip room
   unfolding verdict_on case_of
-  told_same (Good m) known = ap (λ (l : Looked). submit_by true (case_from l sender today) ticket sender today (Good m) slip room) (known m refl)
-  told_same (IllFormed place) known = refl
-  told_same (BadField number) known = refl
+  told_same (Ok m) known = ap (λ (l : Looked). submit_by true (case_from l sender today) ticket sender today (Ok m) slip room) (known m refl)
+  told_same (Err (IllFormed place)) known = refl
+  told_same (Err (BadField number)) known = refl
 
-  left-same : (received : Answer) → ((m : Message) → received ≡ Good m → looked ≡ looked_up dir sender m)
+  left-same : (received : Answer) → ((m : Message) → received ≡ Ok m → looked ≡ looked_up dir sender m)
       → submit_left true sought-case ticket sender today received slip room ≡ submit_left true directory-case ticket sender today received slip room
   unfolding verdict_on step_on case_of
-  left-same (Good m) known = ap (λ (l : Looked). submit_left true (case_from l sender today) ticket sender today (Good m) slip room) (known m refl)
-  left-same (IllFormed place) known = refl
-  left-same (BadField number) known = refl
+  left-same (Ok m) known = ap (λ (l : Looked). submit_left true (case_from l sender today) ticket sender today (Ok m) slip room) (known m refl)
+  left-same (Err (IllFormed place)) known = refl
+  left-same (Err (BadField number)) known = refl
 
-  written_same : (received : Answer) → ((m : Message) → received ≡ Good m → looked ≡ looked_up dir sender m)
+  written_same : (received : Answer) → ((m : Message) → received ≡ Ok m → looked ≡ looked_up dir sender m)
       → submit_written true sought-case ticket sender today received slip room ≡ submit_written true directory-case ticket sender today received slip room
   unfolding verdict_on step_on case_of
-  written_same (Good m) known = ap (λ (l : Looked). submit_written true (case_from l sender today) ticket sender today (Good m) slip room) (known m refl)
-  written_same (IllFormed place) known = refl
-  written_same (BadField number) known = refl
+  written_same (Ok m) known = ap (λ (l : Looked). submit_written true (case_from l sender today) ticket sender today (Ok m) slip room) (known m refl)
+  written_same (Err (IllFormed place)) known = refl
+  written_same (Err (BadField number)) known = refl
 
   -- a directory that is fit or not
   module _ (received : Answer) where
@@ -88,7 +89,7 @@ module _ (ticket : Ticket) (sender today : ℕ) (slip room : List ℕ) (dir : Li
         × ((submit_left fit sought-case ticket sender today received slip room ≡ submit_left fit directory-case ticket sender today received slip room)
         × (submit_written fit sought-case ticket sender today received slip room ≡ submit_written fit directory-case ticket sender today received slip room))
 
-    same : (fit : Bool) → (fit ≡ true → (m : Message) → received ≡ Good m → looked ≡ looked_up dir sender m) → Same fit
+    same : (fit : Bool) → (fit ≡ true → (m : Message) → received ≡ Ok m → looked ≡ looked_up dir sender m) → Same fit
     same true known = (told_same received (known refl), (left-same received (known refl), written_same received (known refl)))
     same false known = (
       refl,
@@ -101,7 +102,7 @@ module _ (ticket : Ticket) (sender today : ℕ) (slip room : List ℕ) (dir : Li
     )
 
     pub submit-sought : (fit : Bool) (sheet : List ℕ) → fit ≡ is_fit dir → received ≡ (received_of sheet).answer
-        → (fit ≡ true → (m : Message) → received ≡ Good m → looked ≡ looked_up dir sender m)
+        → (fit ≡ true → (m : Message) → received ≡ Ok m → looked ≡ looked_up dir sender m)
         → (submit_by fit (case_from looked sender today) ticket sender today received slip room ≡ submit_told dir ticket sender today sheet slip room)
         × ((submit_left fit (case_from looked sender today) ticket sender today received slip room ≡ submit_after dir ticket sender today sheet slip room)
         × (submit_written fit (case_from looked sender today) ticket sender today received slip room ≡ submit_slip dir ticket sender today sheet slip room))
@@ -127,7 +128,7 @@ module _ (g : Gathered) (sixteen : length g.records ≡ 16) (sheet : List ℕ) (
   gathered-fit : fit ≡ is_fit (directory_in g)
   gathered-fit = tested ∙ directory-fit g sixteen
 
-  gathered-looked : fit ≡ true → (m : Message) → received ≡ Good m → looked ≡ looked_up (directory_in g) sender m
+  gathered-looked : fit ≡ true → (m : Message) → received ≡ Ok m → looked ≡ looked_up (directory_in g) sender m
   gathered-looked t m f =
       looking ∙ ap (looked_for (records_in g) sender) asking
       ∙ ap (λ (dir : List Participant). looked_for dir sender (asked_in received)) (sym (directory-records g (sym tested ∙ t)))
@@ -154,7 +155,7 @@ module _ (dir : List Participant) (sheet : List ℕ) (sender : ℕ) (fit : Bool)
   abbrev sought : Looked
   sought = looked_for dir sender (asked_in answer)
 
-  lent-looked : fit ≡ true → (m : Message) → answer ≡ Good m → sought ≡ looked_up dir sender m
+  lent-looked : fit ≡ true → (m : Message) → answer ≡ Ok m → sought ≡ looked_up dir sender m
   lent-looked t m f = looked-in dir sender answer m f
 
   pub lent-sought : Sought fit sought sender answer

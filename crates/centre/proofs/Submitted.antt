@@ -2,7 +2,7 @@
 -- they came; one that passes the first eight refusals is judged in its seat.
 -- Assumes nothing.
 use mathlib.Core.Path.{◌≡◌, refl, sym, ap, ◌∙◌}
-use mathlib.Core.Bool.{Bool, true, false, ◌&&◌, ◌||◌, not, cond, false≢true}
+use mathlib.Core.Bool.{Bool, true, false, ◌&&◌, cond}
 use mathlib.Core.List.{List, ◌++◌}
 use Prim.Native.Nat.{ℕ, suc, ◌<◌, ◌≤◌}
 use native.Mathlib.Omega.{arith}
@@ -11,11 +11,14 @@ use lib.Dec.{leb, ltb, eqb}
 use lib.ListN.{length, drop}
 use borrow.Author.Tests.{eq-eqb, ne_eqb, lt-ltb, le-ltb, leb-false, lt-leb, le-leb, not-true, not-false}
 use Rattle.shape.specs.Dates.{is_date}
+use Rattle.std.specs.declared.ops.Range.{Range}
 use Rattle.slip.specs.Meaning.{slip_long, seats, steps}
 use Rattle.slip.specs.Image.{image}
 use Rattle.message.specs.declared.Message.{Message}
-use Rattle.message.specs.declared.Answer.{Answer as Received}
-use Rattle.message.specs.declared.Answer.TheVariants as message
+use Rattle.message.specs.declared.Refusal.{Refusal as MessageRefusal}
+use Rattle.message.specs.declared.Refusal.TheVariants.{IllFormed, BadField}
+use Rattle.message.specs.Message.{Answer as Received}
+use Rattle.message.specs.Lowest.{number_of}
 use Rattle.directory.specs.Directory.{code_most}
 use Rattle.layout.specs.Seat.{head_of, seat_of, with_seat}
 use Rattle.layout.proofs.Rooms.{seat-same}
@@ -30,12 +33,14 @@ use Rattle.judge.specs.declared.case.Case.{Case}
 use Rattle.judge.specs.Case.{Arises}
 use Rattle.judge.specs.Verdict.{judged_step}
 use Rattle.judge.proofs.Verdicts.{or-neither}
-use Rattle.centre.specs.declared.Answer.{Answer}
-use Rattle.centre.specs.declared.Answer.TheVariants.{RoomUnfit, DirectoryUnfit, NoTicket, BadNumber, IllFormed, BadField, JournalFull, NoSlip}
+use Rattle.std.specs.Prelude.{Ok, Err}
+use Rattle.centre.specs.declared.answers.Refusal.{Refusal}
+use Rattle.centre.specs.declared.answers.Refusal.TheVariants.{RoomUnfit, DirectoryUnfit, NoTicket, BadNumber, JournalFull, NoSlip}
 use Rattle.centre.specs.declared.Ticket.{Ticket}
-use Rattle.centre.specs.Answers.{Told, told, is_done, behind}
-use Rattle.centre.specs.Calls.{no_seat, ticket_bad}
-use Rattle.centre.specs.Submit.{verdict_on, step_on, slip_of, judged_told, judged_after, judged_slip, submit_by, submit_left, submit_written}
+use Rattle.centre.specs.Answers.{Answer, Told, told, refused_with, is_done, behind}
+use Rattle.centre.specs.Calls.{no_seat, seat_place, ticket_bad}
+use Rattle.centre.specs.Submit.{call_bad, verdict_on, step_on, slip_of, judged_told, judged_after, judged_slip, submit_by, submit_left, submit_written}
+use Rattle.centre.proofs.SeatLent.{Lent}
 use Rattle.centre.proofs.First.{behind-refused}
 
 -- a ticket for no seat, and one for a seat
@@ -75,11 +80,16 @@ behind-seat room k made s t e = go (is_done t)
     go false = e
 
 -- the two numbers of a call, tested together
-pub numbers-bad : (sender today : ℕ) (r : Bool) → r ≡ is_date today → not (leb sender code_most && r) ≡ true → (leb sender code_most && is_date today) ≡ false
-numbers-bad sender today r e n = rw (← e) (not-true (leb sender code_most && r) n)
+pub numbers-wrong : (sender today : ℕ) (r : Bool) → r ≡ call_bad sender today → r ≡ true → (leb sender code_most && is_date today) ≡ false
+numbers-wrong sender today r e n = not-true (leb sender code_most && is_date today) (sym e ∙ n)
 
-pub numbers-good : (sender today : ℕ) (r : Bool) → r ≡ is_date today → not (leb sender code_most && r) ≡ false → (leb sender code_most && is_date today) ≡ true
-numbers-good sender today r e n = rw (← e) (not-false (leb sender code_most && r) n)
+pub numbers-right : (sender today : ℕ) (r : Bool) → r ≡ call_bad sender today → r ≡ false → (leb sender code_most && is_date today) ≡ true
+numbers-right sender today r e n = not-false (leb sender code_most && is_date today) (sym e ∙ n)
+
+-- the part of a fit room that is a ticket's seat
+pub lent-by : (ticket : Ticket) (room : List ℕ) → room_fits room ≡ true → ticket_bad ticket room ≡ false → (place : Range ℕ) → place ≡ seat_place ticket.seat
+    → Lent room ticket.seat place
+lent-by ticket room fit right place is = record { fit = fit; low = ticket-seat ticket room right; is = is }
 
 module _ (fit : Bool) (cases : Message → Case) (ticket : Ticket) (sender today : ℕ) (received : Received) (slip room : List ℕ) where
   -- an answer, the room and the buffer behind it are those of submit
@@ -99,35 +109,35 @@ module _ (fit : Bool) (cases : Message → Case) (ticket : Ticket) (sender today
         ),
       )
 
-  pub room-unfit : room_fits room ≡ false → Submits RoomUnfit room slip
+  pub room-unfit : room_fits room ≡ false → Submits (Err RoomUnfit) room slip
   unfolding told is_done
-  room-unfit f = stays RoomUnfit refl (rw f)
+  room-unfit f = stays (Err RoomUnfit) refl (rw f)
 
   module _ (a : room_fits room ≡ true) where
-    pub directory-unfit : fit ≡ false → Submits DirectoryUnfit room slip
+    pub directory-unfit : fit ≡ false → Submits (Err DirectoryUnfit) room slip
     unfolding told is_done
-    directory-unfit f = stays DirectoryUnfit refl (rw (a, f))
+    directory-unfit f = stays (Err DirectoryUnfit) refl (rw (a, f))
 
     module _ (b : fit ≡ true) where
-      pub no-ticket : ticket_bad ticket room ≡ true → Submits NoTicket room slip
+      pub no-ticket : ticket_bad ticket room ≡ true → Submits (Err NoTicket) room slip
       unfolding told is_done
-      no-ticket f = stays NoTicket refl (rw (a, b, f))
+      no-ticket f = stays (Err NoTicket) refl (rw (a, b, f))
 
       module _ (t : ticket_bad ticket room ≡ false) where
-        pub bad-number : (leb sender code_most && is_date today) ≡ false → Submits BadNumber room slip
+        pub bad-number : (leb sender code_most && is_date today) ≡ false → Submits (Err BadNumber) room slip
         unfolding told is_done
-        bad-number f = stays BadNumber refl (rw (a, b, t, f))
+        bad-number f = stays (Err BadNumber) refl (rw (a, b, t, f))
 
         module _ (n : (leb sender code_most && is_date today) ≡ true) where
-          pub no-slip : length slip < slip_long → Submits NoSlip room slip
+          pub no-slip : length slip < slip_long → Submits (Err NoSlip) room slip
           unfolding told is_done
-          no-slip f = stays NoSlip refl (rw (a, b, t, n, lt-ltb (length slip) slip_long f))
+          no-slip f = stays (Err NoSlip) refl (rw (a, b, t, n, lt-ltb (length slip) slip_long f))
 
           module _ (l : slip_long ≤ length slip) where
-            pub journal-full : (head_of (seat_of room ticket.seat)).steps ≡ steps → Submits JournalFull room slip
+            pub journal-full : (head_of (seat_of room ticket.seat)).steps ≡ steps → Submits (Err JournalFull) room slip
             unfolding told is_done
             journal-full f =
-                stays JournalFull refl
+                stays (Err JournalFull) refl
                 (rw (a, b, t, n, le-ltb (length slip) slip_long l, eq-eqb (head_of (seat_of room ticket.seat)).steps steps f))
 
 -- the first six refusals are passed
@@ -139,6 +149,18 @@ pub record Passed (fit : Bool) (ticket : Ticket) (sender today : ℕ) (slip room
   pub slip-long : slip_long ≤ length slip
   pub steps-left : (head_of (seat_of room ticket.seat)).steps ≡ steps → ⊥
 
+pub passed : (fit : Bool) (ticket : Ticket) (sender today : ℕ) (slip room : List ℕ) → room_fits room ≡ true → fit ≡ true → ticket_bad ticket room ≡ false
+    → (leb sender code_most && is_date today) ≡ true → slip_long ≤ length slip
+    → (n : ℕ) → n ≡ (head_of (seat_of room ticket.seat)).steps → (n ≡ steps → ⊥) → Passed fit ticket sender today slip room
+passed fit ticket sender today slip room fits listed right numbers long n counts left = record {
+  room-fit = fits;
+  directory-fit = listed;
+  ticket-right = right;
+  numbers-right = numbers;
+  slip-long = long;
+  steps-left = λ (e : (head_of (seat_of room ticket.seat)).steps ≡ steps). left (counts ∙ e);
+}
+
 module _ {fit : Bool} {ticket : Ticket} {sender today : ℕ} {slip room : List ℕ}
     (p : Passed fit ticket sender today slip room) (cases : Message → Case) (received : Received) where
   slip-enough : ltb (length slip) slip_long ≡ false
@@ -147,20 +169,20 @@ module _ {fit : Bool} {ticket : Ticket} {sender today : ℕ} {slip room : List �
   steps_apart : eqb (head_of (seat_of room ticket.seat)).steps steps ≡ false
   steps_apart = ne_eqb (head_of (seat_of room ticket.seat)).steps steps p.steps-left
 
-  pub ill-formed : (place : ℕ) → received ≡ message.IllFormed place → Submits fit cases ticket sender today received slip room (IllFormed place) room slip
-  unfolding told is_done
-  ill-formed place f =
-      stays fit cases ticket sender today received slip room (IllFormed place) refl
-      (rw (p.room-fit, p.directory-fit, p.ticket-right, p.numbers-right, slip-enough, steps_apart, f))
-
-  pub bad-field : (number : ℕ) → received ≡ message.BadField number → Submits fit cases ticket sender today received slip room (BadField number) room slip
-  unfolding told is_done
-  bad-field number f =
-      stays fit cases ticket sender today received slip room (BadField number) refl
-      (rw (p.room-fit, p.directory-fit, p.ticket-right, p.numbers-right, slip-enough, steps_apart, f))
+  -- a sheet that is no message is refused as reading it was
+  pub no-message : (refusal : MessageRefusal) (r : Refusal) → received ≡ Err refusal
+      → told (Err r) ≡ refused_with (number_of (Err refusal)).0 (number_of (Err refusal)).1
+      → Submits fit cases ticket sender today received slip room (Err r) room slip
+  unfolding is_done
+  no-message (IllFormed place) r f t =
+      stays fit cases ticket sender today received slip room (Err r) (rw t)
+      (t ∙ rw (p.room-fit, p.directory-fit, p.ticket-right, p.numbers-right, slip-enough, steps_apart, f))
+  no-message (BadField number) r f t =
+      stays fit cases ticket sender today received slip room (Err r) (rw t)
+      (t ∙ rw (p.room-fit, p.directory-fit, p.ticket-right, p.numbers-right, slip-enough, steps_apart, f))
 
   -- a message, judged in its seat
-  module _ (m : Message) (f : received ≡ message.Good m) where
+  module _ (m : Message) (f : received ≡ Ok m) where
     abbrev here : List ℕ
     here = seat_of room ticket.seat
 

@@ -8,12 +8,11 @@ use Prim.Native.Nat.{ℕ}
 use lib.Dec.{eqb}
 use lib.ListN.{length, get_or}
 use Rattle.layout.specs.Rows.{account_row, account_in}
-use Rattle.centre.specs.declared.Answer.{Answer}
-use Rattle.centre.specs.declared.Answer.TheVariants.{
-  Done,
-  Opened,
-  Holds,
-  Says,
+use Rattle.std.specs.Prelude.{Ok, Err}
+use Rattle.centre.specs.declared.answers.Done.{Done}
+use Rattle.centre.specs.declared.answers.Done.TheVariants.{Plain, Opened, Holds, Says}
+use Rattle.centre.specs.declared.answers.Refusal.{Refusal}
+use Rattle.centre.specs.declared.answers.Refusal.TheVariants.{
   RoomUnfit,
   DirectoryUnfit,
   NoTicket,
@@ -27,11 +26,11 @@ use Rattle.centre.specs.declared.Answer.TheVariants.{
   NoSlip,
   NotTaken,
 }
-use Rattle.centre.specs.Answers.{Told, slip_values, told}
+use Rattle.centre.specs.Answers.{Answer, Told, slip_values, told}
 
 -- a call that is done, by the values that it gives back
-abbrev given_back : List ℕ → Answer
-given_back [] = Done
+abbrev given_back : List ℕ → Done
+given_back [] = Plain
 given_back (a ∷ []) = Opened a
 given_back (a ∷ b ∷ rest) =
     cond (eqb (length rest) 4)
@@ -39,7 +38,7 @@ given_back (a ∷ b ∷ rest) =
     (Holds (account_in (a ∷ b ∷ rest)))
 
 -- a refusal, by its number
-abbrev refusal : ℕ → ℕ → Answer
+abbrev refusal : ℕ → ℕ → Refusal
 refusal number detail =
     cond (eqb number 1) RoomUnfit
     (cond (eqb number 2) DirectoryUnfit
@@ -55,26 +54,26 @@ refusal number detail =
     (NotTaken detail)))))))))))
 
 abbrev answer_for : Told → Answer
-answer_for t = cond (eqb t.number 0) (given_back t.values) (refusal t.number t.detail)
+answer_for t = cond (eqb t.number 0) (Ok (given_back t.values)) (Err (refusal t.number t.detail))
 
 read_off : (a : Answer) → answer_for (told a) ≡ a
 unfolding told slip_values account_row account_in
-read_off Done = refl
-read_off (Opened opening) = refl
-read_off (Holds account) = refl
-read_off (Says slip) = refl
-read_off RoomUnfit = refl
-read_off DirectoryUnfit = refl
-read_off NoTicket = refl
-read_off AlreadyOpen = refl
-read_off NoOpeningLeft = refl
-read_off BadNumber = refl
-read_off (IllFormed place) = refl
-read_off (BadField number) = refl
-read_off JournalFull = refl
-read_off NothingToTakeBack = refl
-read_off NoSlip = refl
-read_off (NotTaken check) = refl
+read_off (Ok Plain) = refl
+read_off (Ok (Opened opening)) = refl
+read_off (Ok (Holds account)) = refl
+read_off (Ok (Says slip)) = refl
+read_off (Err RoomUnfit) = refl
+read_off (Err DirectoryUnfit) = refl
+read_off (Err NoTicket) = refl
+read_off (Err AlreadyOpen) = refl
+read_off (Err NoOpeningLeft) = refl
+read_off (Err BadNumber) = refl
+read_off (Err (IllFormed place)) = refl
+read_off (Err (BadField number)) = refl
+read_off (Err JournalFull) = refl
+read_off (Err NothingToTakeBack) = refl
+read_off (Err NoSlip) = refl
+read_off (Err (NotTaken check)) = refl
 
 pub told-one : (a b : Answer) → told a ≡ told b → a ≡ b
 told-one a b e = sym (read_off a) ∙ ap answer_for e ∙ read_off b

@@ -1,16 +1,13 @@
 -- How the centre answers: document 01, "Calls and refusals". Each case of an answer has the number that the table of refusals gives it, the detail
 -- that it names (a place, a field, a check), and what a call that is done gives back.
-use Rattle.std.specs.Prelude.{Bool, cond, List, [], ◌∷◌, ℕ, eqb}
+use Rattle.std.specs.Prelude.{Bool, cond, List, [], ◌∷◌, ℕ, eqb, Result, Ok, Err}
 use Rattle.slip.specs.declared.Slip.{Slip}
 use Rattle.layout.specs.Rows.{account_row}
-use Rattle.seat.specs.declared.calls.Answer as seat
-use Rattle.seat.specs.Calls.{is_done as seat_done, number_of as seat_number}
-use Rattle.centre.specs.declared.Answer.{Answer}
-use Rattle.centre.specs.declared.Answer.TheVariants.{
-  Done,
-  Opened,
-  Holds,
-  Says,
+use Rattle.seat.specs.Calls.{Answer as SeatAnswer, is_done as seat_done, number_of as seat_number}
+use Rattle.centre.specs.declared.answers.Done.{Done}
+use Rattle.centre.specs.declared.answers.Done.TheVariants.{Plain, Opened, Holds, Says}
+use Rattle.centre.specs.declared.answers.Refusal.{Refusal}
+use Rattle.centre.specs.declared.answers.Refusal.TheVariants.{
   RoomUnfit,
   DirectoryUnfit,
   NoTicket,
@@ -24,6 +21,10 @@ use Rattle.centre.specs.declared.Answer.TheVariants.{
   NoSlip,
   NotTaken,
 }
+
+-- how a call ends: done, with what it gives back, or refused
+abbrev pub Answer : Type 0
+Answer = Result Done Refusal
 
 -- an answer as the document gives it
 pub record Told : Type 0 where
@@ -48,22 +49,22 @@ slip_values slip = slip.kind ∷ slip.status ∷ slip.check ∷ slip.seat ∷ sl
 
 -- the numbers and values of each case: an opening number; the seven numbers of an account; the six of a slip
 unfoldable pub told : Answer → Told
-told Done = done []
-told (Opened opening) = done (opening ∷ [])
-told (Holds account) = done (account_row account)
-told (Says slip) = done (slip_values slip)
-told RoomUnfit = refused 1
-told DirectoryUnfit = refused 2
-told NoTicket = refused 3
-told AlreadyOpen = refused 4
-told NoOpeningLeft = refused 5
-told BadNumber = refused 6
-told (IllFormed place) = refused_with 7 place
-told (BadField number) = refused_with 8 number
-told JournalFull = refused 9
-told NothingToTakeBack = refused 10
-told NoSlip = refused 11
-told (NotTaken check) = refused_with 12 check
+told (Ok Plain) = done []
+told (Ok (Opened opening)) = done (opening ∷ [])
+told (Ok (Holds account)) = done (account_row account)
+told (Ok (Says slip)) = done (slip_values slip)
+told (Err RoomUnfit) = refused 1
+told (Err DirectoryUnfit) = refused 2
+told (Err NoTicket) = refused 3
+told (Err AlreadyOpen) = refused 4
+told (Err NoOpeningLeft) = refused 5
+told (Err BadNumber) = refused 6
+told (Err (IllFormed place)) = refused_with 7 place
+told (Err (BadField number)) = refused_with 8 number
+told (Err JournalFull) = refused 9
+told (Err NothingToTakeBack) = refused 10
+told (Err NoSlip) = refused 11
+told (Err (NotTaken check)) = refused_with 12 check
 
 -- refusals stand in a table in their order: the answer is the first whose test holds, else that the call is done
 abbrev pub first : List (Bool × Told) → Told → Told
@@ -78,5 +79,5 @@ unfoldable pub behind : {A : Type 0} → Told → A → A → A
 behind t made came = cond (is_done t) made came
 
 -- a seat's answer in the room's words, with what the call gives back where it is done
-unfoldable pub seat_told : seat.Answer → List ℕ → Told
+unfoldable pub seat_told : SeatAnswer → List ℕ → Told
 seat_told answer values = cond (seat_done answer) (done values) (refused (seat_number answer))

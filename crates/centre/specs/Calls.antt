@@ -1,13 +1,14 @@
 -- The calls of a room that need no message: document 01, "Calls and refusals". Of each call the table of its refusals, in their order, with its
 -- answer, and the room after it. A seat is a part of the room; all that a call does to a room is done to its seat. The tests of the refusals have
 -- their names in `seat` and, where they are about the whole room, here.
-use Rattle.std.specs.Prelude.{Bool, not, ◌||◌, List, [], ◌∷◌, ℕ, suc, leb, eqb, length, replicate}
+use Rattle.std.specs.Prelude.{Bool, not, ◌||◌, cond, List, [], ◌∷◌, ℕ, suc, ◌+◌, leb, eqb, length, replicate, Option, Result, Ok, Err}
+use Rattle.std.specs.declared.ops.Range.{Range}
 use Rattle.slip.specs.Meaning.{seats}
 use Rattle.directory.specs.declared.Participant.{Participant}
-use Rattle.directory.specs.declared.Found.{Found}
+use Rattle.directory.specs.declared.Listed.{Listed}
 use Rattle.directory.specs.Directory.{found, is_fit}
 use Rattle.layout.specs.Rows.{account_row}
-use Rattle.layout.specs.Seat.{room_long, head_of, account_of, seat_of, with_seat}
+use Rattle.layout.specs.Seat.{seat_long, room_long, seat_from, head_of, account_of, seat_of, with_seat}
 use Rattle.journal.specs.Working.{stepped, backed}
 use Rattle.seat.specs.declared.settings.Wish.{Wish}
 use Rattle.seat.specs.Fit.{closed_seat, open_seat, room_fits}
@@ -25,11 +26,20 @@ use Rattle.seat.specs.Calls.{
   set_step,
 }
 use Rattle.centre.specs.declared.Ticket.{Ticket}
+use Rattle.centre.specs.declared.answers.Refusal.{Refusal}
+use Rattle.centre.specs.declared.answers.Refusal.TheVariants.{NoTicket}
 use Rattle.centre.specs.Answers.{Told, done, refused, first, behind}
 
 -- 3: the seat is above 11; or, but for opening, it is closed or its opening number differs
 unfoldable pub no_seat : ℕ → Bool
 no_seat seat = leb seats seat
+
+-- where a seat stands in a room, and the same of any number, or that refusal
+abbrev pub seat_place : ℕ → Range ℕ
+seat_place seat = record { start = seat_from seat; end = seat_from seat + seat_long }
+
+abbrev pub seat_range : ℕ → Result (Range ℕ) Refusal
+seat_range seat = cond (no_seat seat) (Err NoTicket) (Ok (seat_place seat))
 
 unfoldable pub ticket_bad : Ticket → List ℕ → Bool
 ticket_bad ticket room = no_seat ticket.seat || no_ticket ticket.opening (seat_of room ticket.seat)
@@ -70,7 +80,7 @@ close_after ticket room =
     behind (close_told ticket room) (with_seat room ticket.seat (closed_seat (head_of (seat_of room ticket.seat)).opening)) room
 
 -- set an account's blocks and limits, all four at once, as one step. Of the directory it matters whether it is fit and what is found of the owner
-abbrev pub set_by : Bool → Found → Ticket → ℕ → Wish → List ℕ → Told
+abbrev pub set_by : Bool → Option Listed → Ticket → ℕ → Wish → List ℕ → Told
 set_by fit owner ticket number wish room =
     first (
     (not (room_fits room), refused 1)
@@ -87,7 +97,7 @@ set_told dir ticket owner number wish room = set_by (is_fit dir) (found dir owne
 unfoldable pub set_in : ℕ → Wish → List ℕ → List ℕ
 set_in account wish s = stepped (set_step account (account_of s account).settings (settings_of wish)) s
 
-abbrev pub set_left : Bool → Found → Ticket → ℕ → Wish → List ℕ → List ℕ
+abbrev pub set_left : Bool → Option Listed → Ticket → ℕ → Wish → List ℕ → List ℕ
 set_left fit owner ticket number wish room =
     behind (set_by fit owner ticket number wish room)
     (with_seat room ticket.seat (set_in (account_number owner number) wish (seat_of room ticket.seat))) room
@@ -109,7 +119,7 @@ back_after ticket room =
     behind (back_told ticket room) (with_seat room ticket.seat (backed (seat_of room ticket.seat))) room
 
 -- read an account: all it holds
-abbrev pub read_by : Bool → Found → Ticket → ℕ → List ℕ → Told
+abbrev pub read_by : Bool → Option Listed → Ticket → ℕ → List ℕ → Told
 read_by fit owner ticket number room =
     first (
     (not (room_fits room), refused 1)

@@ -2,7 +2,7 @@
 use Rattle.std.specs.Prelude.{Bool, not, List, [], ◌∷◌, ℕ}
 use Rattle.slip.specs.declared.Slip.{Slip}
 use Rattle.slip.specs.Image.{slip_of}
-use Rattle.slip.specs.Answers.{can_write, write_after, holds_slip}
+use Rattle.slip.specs.Answers.{can_write, holds_slip}
 use Rattle.centre.specs.Answers.{Told, done, refused, first, slip_values}
 
 -- 11, writing: fields that no slip has, or a buffer that is shorter than a slip

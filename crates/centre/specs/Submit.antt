@@ -1,14 +1,14 @@
 -- Submit: a message of a sender, on a date, as a sheet. Document 01, "Calls and refusals", "The checks", "The slip". A message that passes refusal
 -- 12 is one step, carried out or not, and its slip stands in the first bytes of the buffer.
-use Rattle.std.specs.Prelude.{Bool, true, not, ◌&&◌, ◌||◌, List, [], ◌∷◌, ◌++◌, ◌≡◌, ℕ, suc, leb, eqb, drop}
+use Rattle.std.specs.Prelude.{Bool, true, not, ◌&&◌, ◌||◌, List, [], ◌∷◌, ◌++◌, ◌≡◌, ℕ, suc, leb, eqb, drop, Ok, Err}
 use Rattle.shape.specs.Dates.{is_date}
 use Rattle.slip.specs.declared.Slip.{Slip}
 use Rattle.slip.specs.Meaning.{slip_long}
 use Rattle.slip.specs.Image.{image}
 use Rattle.slip.specs.Answers.{buffer_short}
 use Rattle.message.specs.declared.Message.{Message}
-use Rattle.message.specs.declared.Answer.{Answer}
-use Rattle.message.specs.declared.Answer.TheVariants.{IllFormed, BadField, Good}
+use Rattle.message.specs.declared.Refusal.TheVariants.{IllFormed, BadField}
+use Rattle.message.specs.Message.{Answer}
 use Rattle.message.specs.Received.{received_of}
 use Rattle.message.specs.Lowest.{number_of}
 use Rattle.directory.specs.declared.Participant.{Participant}
@@ -29,9 +29,9 @@ use Rattle.centre.specs.Calls.{ticket_bad}
 
 -- the check that the message of a sheet fails by in a seat, by the case that it is; 0 where the sheet is no message
 unfoldable pub verdict_on : (Message → Case) → Answer → List ℕ → ℕ
-verdict_on cases (Good m) s = verdict (cases m) s
-verdict_on cases (IllFormed place) s = 0
-verdict_on cases (BadField number) s = 0
+verdict_on cases (Ok m) s = verdict (cases m) s
+verdict_on cases (Err (IllFormed place)) s = 0
+verdict_on cases (Err (BadField number)) s = 0
 
 -- 12: it fails check 1 or 2
 unfoldable pub not_taken : ℕ → Bool
@@ -50,9 +50,9 @@ field_bad received = eqb (number_of received).0 8
 
 -- the step that it is
 unfoldable pub step_on : (Message → Case) → Answer → List ℕ → Step
-step_on cases (Good m) s = judged_step (cases m) s
-step_on cases (IllFormed place) s = no_step
-step_on cases (BadField number) s = no_step
+step_on cases (Ok m) s = judged_step (cases m) s
+step_on cases (Err (IllFormed place)) s = no_step
+step_on cases (Err (BadField number)) s = no_step
 
 -- the slip of a step: its kind, status and check, with its seat, opening and number
 unfoldable pub slip_of : Ticket → ℕ → Step → Slip
@@ -124,4 +124,4 @@ pub record Sought (fit : Bool) (looked : Looked) (sender : ℕ) (received : Answ
   pub sheet : List ℕ
   pub fitness : fit ≡ is_fit dir
   pub reading : received ≡ (received_of sheet).answer
-  pub finding : fit ≡ true → (m : Message) → received ≡ Good m → looked ≡ looked_up dir sender m
+  pub finding : fit ≡ true → (m : Message) → received ≡ Ok m → looked ≡ looked_up dir sender m

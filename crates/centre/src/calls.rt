@@ -1,125 +1,109 @@
-// The calls of a room that need no message. Each tests the room, then the directory, then the seat; what is left is the seat's own call.
-ghost use Rattle.std.specs.Prelude.{◌≡◌, true, [], ◌∷◌};
+// The calls of a room that need no message. Each tests the room, then the directory, then the seat; what is left is the seat's own call. The
+// tests stand in each call, so that its refusals are read there in the order in which the document has them.
+ghost use Rattle.std.specs.Prelude.{◌≡◌, ◌<◌, true};
+ghost use Rattle.slip.specs.Meaning.{seats};
 ghost use Rattle.directory.specs.Gathering.{directory_in};
-ghost use Rattle.layout.specs.Rows.{account_row};
 ghost use Rattle.seat.specs.Calls.{place_fits};
-ghost use Rattle.centre.specs.Answers.{told, seat_told};
-ghost use Rattle.centre.specs.Calls.{lay_told, lay_after, open_told, open_after, close_told, close_after, set_by, set_left, set_told, set_after, back_told, back_after, read_by, read_told};
+ghost use Rattle.centre.specs.Answers.{told};
+ghost use Rattle.centre.specs.Calls.{seat_place, seat_range, lay_told, lay_after, open_told, open_after, close_told, close_after, set_by, set_left, set_told, set_after, back_told, back_after, read_by, read_told};
 
-use crate::{Answer, Ticket};
-use directory::{Found, Gathered, find_in, fits};
-use layout::rows::Account;
+use crate::{Done, Refusal, Ticket};
+use directory::{Gathered, Listed, find_in, fits};
 use layout::{ROOM_LONG, SEAT_LONG, head, seat_from, seat_in};
 use seat::{Wish, clear, open_seat, read_account, room_fits, set_account, settings_of};
 use slip::SEATS;
+use std::ops::Range;
 
 // Lays out a room: everything is zero.
-pub fn lay_out(room: &mut [u64]) -> Answer
+pub fn lay_out(room: &mut [u64]) -> Result<Done, Refusal>
     ensures result_value { told result ≡ lay_told room.old }
     ensures room_after { room.new ≡ lay_after room.old }
 {
     if room.len() != ROOM_LONG {
-        return Answer::RoomUnfit;
+        return Err(Refusal::RoomUnfit);
     }
     clear(room);
-    Answer::Done
+    Ok(Done::Plain)
 }
 
-// A seat's answer to a call that gives nothing back.
-fn of_seat(answer: seat::Answer) -> Answer
-    ensures { told result ≡ seat_told answer [] }
+// Where a seat stands in a room.
+pub(crate) fn seat_place(seat: u64) -> Range<usize>
+    requires { seat < seats }
+    ensures { result ≡ seat_place seat }
 {
-    match answer {
-        seat::Answer::Done => Answer::Done,
-        seat::Answer::NoTicket => Answer::NoTicket,
-        seat::Answer::AlreadyOpen => Answer::AlreadyOpen,
-        seat::Answer::NoOpeningLeft => Answer::NoOpeningLeft,
-        seat::Answer::BadNumber => Answer::BadNumber,
-        seat::Answer::JournalFull => Answer::JournalFull,
-        seat::Answer::NothingToTakeBack => Answer::NothingToTakeBack,
-    }
+    let from = seat_from(seat as usize);
+    from..from + SEAT_LONG
 }
 
-// A seat's answer to opening, with the opening number.
-fn of_opening(answer: seat::Answer, opening: u64) -> Answer
-    ensures { told result ≡ seat_told answer (opening ∷ []) }
+// The same of any number, or refusal 3 where a room has no such seat.
+#[tactic(auto, unfolding(crate::specs::Calls::no_seat))]
+fn seat_range(seat: u64) -> Result<Range<usize>, Refusal>
+    ensures { result ≡ seat_range seat }
 {
-    match answer {
-        seat::Answer::Done => Answer::Opened(opening),
-        seat::Answer::NoTicket => Answer::NoTicket,
-        seat::Answer::AlreadyOpen => Answer::AlreadyOpen,
-        seat::Answer::NoOpeningLeft => Answer::NoOpeningLeft,
-        seat::Answer::BadNumber => Answer::BadNumber,
-        seat::Answer::JournalFull => Answer::JournalFull,
-        seat::Answer::NothingToTakeBack => Answer::NothingToTakeBack,
+    if SEATS <= seat {
+        return Err(Refusal::NoTicket);
     }
+    Ok(seat_place(seat))
 }
 
 // Opens a seat with two sums for each record of the directory.
-pub fn open_among(room: &mut [u64], g: Gathered, seat: u64, sums: &[u64]) -> Answer
+pub fn open_among(room: &mut [u64], g: Gathered, seat: u64, sums: &[u64]) -> Result<Done, Refusal>
     ensures result_value { told result ≡ open_told (directory_in g) seat sums.now room.old }
     ensures room_after { room.new ≡ open_after (directory_in g) seat sums.now room.old }
 {
     if !room_fits(room) {
-        return Answer::RoomUnfit;
+        return Err(Refusal::RoomUnfit);
     }
     if !fits(g) {
-        return Answer::DirectoryUnfit;
+        return Err(Refusal::DirectoryUnfit);
     }
-    if SEATS <= seat {
-        return Answer::NoTicket;
-    }
-    let from = seat_from(seat as usize);
-    let to = from + SEAT_LONG;
-    let answer = open_seat(&mut room[from..to], g, sums);
-    let h = head(seat_in(room, seat as usize));
-    of_opening(answer, h.opening)
+    let place = seat_range(seat)?;
+    open_seat(&mut room[place], g, sums)?;
+    Ok(Done::Opened(head(seat_in(room, seat as usize)).opening))
 }
 
-// Closes a seat.
-pub fn close_seat(room: &mut [u64], ticket: Ticket) -> Answer
+// Closes a seat. It and `take_back` differ in the call of the seat's: one function of that call would be no shorter than the two.
+pub fn close_seat(room: &mut [u64], ticket: Ticket) -> Result<Done, Refusal>
     ensures result_value { told result ≡ close_told ticket room.old }
     ensures room_after { room.new ≡ close_after ticket room.old }
 {
     if !room_fits(room) {
-        return Answer::RoomUnfit;
+        return Err(Refusal::RoomUnfit);
     }
-    if SEATS <= ticket.seat {
-        return Answer::NoTicket;
-    }
-    let from = seat_from(ticket.seat as usize);
-    let to = from + SEAT_LONG;
-    let answer = seat::close_seat(&mut room[from..to], ticket.opening);
-    of_seat(answer)
+    let place = seat_range(ticket.seat)?;
+    seat::close_seat(&mut room[place], ticket.opening)?;
+    Ok(Done::Plain)
 }
 
-// Sets an account's blocks and limits, as one step, by what was found of its owner in a directory that is fit or not.
+// Sets an account's blocks and limits, as one step, by what was found of its owner in a directory that is fit or not. The two stand apart,
+// because `set_by` is of both.
 pub fn set_found(
     room: &mut [u64],
     fit: bool,
-    owner: Found,
+    owner: Option<Listed>,
     ticket: Ticket,
     number: u64,
     wish: Wish,
-) -> Answer
+) -> Result<Done, Refusal>
     requires { fit ≡ true → place_fits owner ≡ true }
     ensures result_value { told result ≡ set_by fit owner ticket number wish room.old }
     ensures room_after { room.new ≡ set_left fit owner ticket number wish room.old }
 {
     if !room_fits(room) {
-        return Answer::RoomUnfit;
+        return Err(Refusal::RoomUnfit);
     }
     if !fit {
-        return Answer::DirectoryUnfit;
+        return Err(Refusal::DirectoryUnfit);
     }
-    if SEATS <= ticket.seat {
-        return Answer::NoTicket;
-    }
-    let given = settings_of(wish);
-    let from = seat_from(ticket.seat as usize);
-    let to = from + SEAT_LONG;
-    let answer = set_account(&mut room[from..to], ticket.opening, owner, number, given);
-    of_seat(answer)
+    let place = seat_range(ticket.seat)?;
+    set_account(
+        &mut room[place],
+        ticket.opening,
+        owner,
+        number,
+        settings_of(wish),
+    )?;
+    Ok(Done::Plain)
 }
 
 // The same among gathered records.
@@ -130,72 +114,58 @@ pub fn set_among(
     owner: u64,
     number: u64,
     wish: Wish,
-) -> Answer
+) -> Result<Done, Refusal>
     ensures result_value { told result ≡ set_told (directory_in g) ticket owner number wish room.old }
     ensures room_after { room.new ≡ set_after (directory_in g) ticket owner number wish room.old }
 {
-    let found = find_in(g, owner);
-    let fit = fits(g);
-    set_found(room, fit, found, ticket, number, wish)
+    set_found(room, fits(g), find_in(g, owner), ticket, number, wish)
 }
 
 // Takes back the last step.
-pub fn take_back(room: &mut [u64], ticket: Ticket) -> Answer
+pub fn take_back(room: &mut [u64], ticket: Ticket) -> Result<Done, Refusal>
     ensures result_value { told result ≡ back_told ticket room.old }
     ensures room_after { room.new ≡ back_after ticket room.old }
 {
     if !room_fits(room) {
-        return Answer::RoomUnfit;
+        return Err(Refusal::RoomUnfit);
     }
-    if SEATS <= ticket.seat {
-        return Answer::NoTicket;
-    }
-    let from = seat_from(ticket.seat as usize);
-    let to = from + SEAT_LONG;
-    let answer = seat::take_back(&mut room[from..to], ticket.opening);
-    of_seat(answer)
+    let place = seat_range(ticket.seat)?;
+    seat::take_back(&mut room[place], ticket.opening)?;
+    Ok(Done::Plain)
 }
 
-// A seat's answer to reading, with the account.
-fn of_reading(answer: seat::Answer, account: Account) -> Answer
-    ensures { told result ≡ seat_told answer (account_row account) }
-{
-    match answer {
-        seat::Answer::Done => Answer::Holds(account),
-        seat::Answer::NoTicket => Answer::NoTicket,
-        seat::Answer::AlreadyOpen => Answer::AlreadyOpen,
-        seat::Answer::NoOpeningLeft => Answer::NoOpeningLeft,
-        seat::Answer::BadNumber => Answer::BadNumber,
-        seat::Answer::JournalFull => Answer::JournalFull,
-        seat::Answer::NothingToTakeBack => Answer::NothingToTakeBack,
-    }
-}
-
-// Reads all that an account holds, by what was found of its owner in a directory that is fit or not.
-pub fn read_found(room: &[u64], fit: bool, owner: Found, ticket: Ticket, number: u64) -> Answer
+// Reads all that an account holds, by what was found of its owner in a directory that is fit or not. The two stand apart, because `read_by` is
+// of both.
+pub fn read_found(
+    room: &[u64],
+    fit: bool,
+    owner: Option<Listed>,
+    ticket: Ticket,
+    number: u64,
+) -> Result<Done, Refusal>
     requires { fit ≡ true → place_fits owner ≡ true }
     ensures { told result ≡ read_by fit owner ticket number room.now }
 {
     if !room_fits(room) {
-        return Answer::RoomUnfit;
+        return Err(Refusal::RoomUnfit);
     }
     if !fit {
-        return Answer::DirectoryUnfit;
+        return Err(Refusal::DirectoryUnfit);
     }
-    if SEATS <= ticket.seat {
-        return Answer::NoTicket;
-    }
-    let s = seat_in(room, ticket.seat as usize);
-    let reading = read_account(s, ticket.opening, owner, number);
-    let answer = reading.answer;
-    of_reading(answer, reading.account)
+    let place = seat_range(ticket.seat)?;
+    let account = read_account(&room[place], ticket.opening, owner, number)?;
+    Ok(Done::Holds(account))
 }
 
 // The same among gathered records.
-pub fn read_among(room: &[u64], g: Gathered, ticket: Ticket, owner: u64, number: u64) -> Answer
+pub fn read_among(
+    room: &[u64],
+    g: Gathered,
+    ticket: Ticket,
+    owner: u64,
+    number: u64,
+) -> Result<Done, Refusal>
     ensures { told result ≡ read_told (directory_in g) ticket owner number room.now }
 {
-    let found = find_in(g, owner);
-    let fit = fits(g);
-    read_found(room, fit, found, ticket, number)
+    read_found(room, fits(g), find_in(g, owner), ticket, number)
 }

@@ -1,5 +1,5 @@
-// The calls that take a directory, as a lent slice of participants. Each is straight-line: thin functions go through the slice (`gather` once,
-// `find` for an owner, `look_up` for what a message asks), and a covered call does the rest. The definitions are the same.
+// The calls that take a directory, as a lent slice of participants. Three functions go through the slice (`gather` for its records, `find` for
+// an owner, `look_up` for what a message asks), and the call that is given what they found does the rest. The definitions are the same.
 ghost use Rattle.std.specs.Prelude.{◌≡◌};
 ghost use Rattle.centre.specs.Answers.{told};
 ghost use Rattle.centre.specs.Calls.{open_told, open_after, set_told, set_after, read_told};
@@ -7,18 +7,22 @@ ghost use Rattle.centre.specs.Submit.{submit_told, submit_after, submit_slip};
 
 use crate::calls::{open_among, read_found, set_found};
 use crate::submit::{received_in, submit_found};
-use crate::{Answer, Ticket};
+use crate::{Done, Refusal, Ticket};
 use directory::{Participant, find, fits, gather};
 use judge::{asked_in, look_up};
 use seat::Wish;
 
 // Opens a seat with two sums for each record of the directory.
-pub fn open_seat(room: &mut [u64], dir: &[Participant], seat: u64, sums: &[u64]) -> Answer
+pub fn open_seat(
+    room: &mut [u64],
+    dir: &[Participant],
+    seat: u64,
+    sums: &[u64],
+) -> Result<Done, Refusal>
     ensures result_value { told result ≡ open_told dir.now seat sums.now room.old }
     ensures room_after { room.new ≡ open_after dir.now seat sums.now room.old }
 {
-    let g = gather(dir);
-    open_among(room, g, seat, sums)
+    open_among(room, gather(dir), seat, sums)
 }
 
 // Sets an account's blocks and limits, as one step.
@@ -29,14 +33,12 @@ pub fn set_account(
     owner: u64,
     number: u64,
     wish: Wish,
-) -> Answer
+) -> Result<Done, Refusal>
     ensures result_value { told result ≡ set_told dir.now ticket owner number wish room.old }
     ensures room_after { room.new ≡ set_after dir.now ticket owner number wish room.old }
 {
-    let g = gather(dir);
-    let found = find(dir, owner);
-    let fit = fits(g);
-    set_found(room, fit, found, ticket, number, wish)
+    let fit = fits(gather(dir));
+    set_found(room, fit, find(dir, owner), ticket, number, wish)
 }
 
 // Submits a sheet for a sender on a date.
@@ -48,16 +50,14 @@ pub fn submit_sheet(
     today: u64,
     sheet: &[u8],
     slip: &mut [u8],
-) -> Answer
+) -> Result<Done, Refusal>
     ensures result_value { told result ≡ submit_told dir.now ticket sender today sheet.now slip.old room.old }
     ensures room_after { room.new ≡ submit_after dir.now ticket sender today sheet.now slip.old room.old }
     ensures slip_after { slip.new ≡ submit_slip dir.now ticket sender today sheet.now slip.old room.old }
 {
     let received = received_in(sheet);
-    let g = gather(dir);
-    let fit = fits(g);
-    let asked = asked_in(received);
-    let looked = look_up(dir, sender, asked);
+    let fit = fits(gather(dir));
+    let looked = look_up(dir, sender, asked_in(received));
     submit_found(room, fit, looked, ticket, sender, today, received, slip)
 }
 
@@ -68,11 +68,9 @@ pub fn read_account(
     ticket: Ticket,
     owner: u64,
     number: u64,
-) -> Answer
+) -> Result<Done, Refusal>
     ensures { told result ≡ read_told dir.now ticket owner number room.now }
 {
-    let g = gather(dir);
-    let found = find(dir, owner);
-    let fit = fits(g);
-    read_found(room, fit, found, ticket, number)
+    let fit = fits(gather(dir));
+    read_found(room, fit, find(dir, owner), ticket, number)
 }

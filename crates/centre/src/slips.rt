@@ -4,28 +4,23 @@ ghost use Rattle.slip.specs.Answers.{write_after};
 ghost use Rattle.centre.specs.Answers.{told};
 ghost use Rattle.centre.specs.Slips.{write_told, read_told};
 
-use crate::Answer;
-use slip::{Reading, Slip, Writing, read, write};
+use crate::{Done, Refusal};
+use slip::{Slip, read, write};
 
 // Writes a slip into the first six bytes of a buffer.
-pub fn write_slip(s: Slip, buffer: &mut [u8]) -> Answer
+#[tactic(auto, unfolding(crate::specs::Answers::told, crate::specs::Slips::write_told, slip::specs::Answers::write_answer))]
+pub fn write_slip(s: Slip, buffer: &mut [u8]) -> Result<Done, Refusal>
     ensures result_value { told result ≡ write_told s buffer.old }
     ensures buffer_after { buffer.new ≡ write_after s buffer.old }
 {
-    let writing = write(s, buffer);
-    match writing {
-        Writing::Written => Answer::Done,
-        Writing::NotWritten => Answer::NoSlip,
-    }
+    write(s, buffer)?;
+    Ok(Done::Plain)
 }
 
 // Reads a slip.
-pub fn read_slip(bytes: &[u8]) -> Answer
+#[tactic(auto, unfolding(crate::specs::Answers::told, crate::specs::Slips::read_told, slip::specs::Answers::read_answer))]
+pub fn read_slip(bytes: &[u8]) -> Result<Done, Refusal>
     ensures { told result ≡ read_told bytes.now }
 {
-    let reading = read(bytes);
-    match reading {
-        Reading::Holds(s) => Answer::Says(s),
-        Reading::NoSlip => Answer::NoSlip,
-    }
+    Ok(Done::Says(read(bytes)?))
 }

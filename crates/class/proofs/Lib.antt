@@ -1,5 +1,4 @@
 pub mod Examples
-pub mod Inked
 pub mod Named
 pub mod Performed
 pub mod Pieces

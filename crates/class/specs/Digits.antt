@@ -1,8 +1,9 @@
 -- The bytes of a slip written as hexadecimal digits, two for each byte, with blanks between them or not. How many bytes a slip has is left to
 -- the call that reads it; here there are at most as many as one that is written has.
-use Rattle.std.specs.Prelude.{Bool, ◌&&◌, ◌||◌, cond, List, [], ◌∷◌, ℕ, suc, ◌+◌, ◌*◌, ◌/◌, ◌%◌, leb, ltb, eqb, get_or, set, take, replicate}
+use Rattle.std.specs.Prelude.{Bool, ◌&&◌, ◌||◌, cond, List, [], ◌∷◌, ℕ, suc, ◌*◌, ◌/◌, ◌%◌, leb, ltb, eqb, get_or, set, take, replicate, fold}
 use Rattle.shape.specs.Bytes.{every, is_digit}
 use Rattle.slip.specs.Meaning.{slip_long}
+use Rattle.text.specs.Hexadecimal.{byte_of}
 use Rattle.class.specs.declared.digits.Ink.{Ink}
 
 -- how many digits a slip has at most, two for each byte
@@ -20,12 +21,8 @@ inked_at ink b = record { count = suc ink.count; bytes = cond (ltb ink.count sli
 unfoldable pub inked : Ink → ℕ → Ink
 inked ink b = cond (leb b 32) ink (cond (ltb slip_digits ink.count) ink (inked_at ink b))
 
-unfoldable pub inked_from : Ink → List ℕ → Ink
-inked_from ink [] = ink
-inked_from ink (b ∷ s) = inked_from (inked ink b) s
-
 unfoldable pub ink_in : List ℕ → Ink
-ink_in s = inked_from no_ink s
+ink_in s = fold inked no_ink s
 
 -- a hexadecimal digit, in a capital or a small letter
 abbrev pub is_hex_digit : ℕ → Bool
@@ -35,13 +32,7 @@ is_hex_digit b = (is_digit b || (leb 65 b && leb b 70)) || (leb 97 b && leb b 10
 unfoldable pub whole_bytes : Ink → Bool
 whole_bytes ink = leb ink.count slip_digits && (eqb (ink.count % 2) 0 && every is_hex_digit (take ink.count ink.bytes))
 
--- what a digit stands for: letters are 1 to 6 above a multiple of sixteen
-abbrev pub digit_of : ℕ → ℕ
-digit_of b = cond (is_digit b) (b % 16) (b % 16 + 9)
-
-abbrev pub byte_of : ℕ → ℕ → ℕ
-byte_of high low = (digit_of high * 16 + digit_of low) % 256
-
+-- the byte that two digits write, from a place on
 abbrev pub byte_at : Ink → ℕ → ℕ
 byte_at ink k = byte_of (get_or ink.bytes k 0) (get_or ink.bytes (suc k) 0)
 

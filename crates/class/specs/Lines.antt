@@ -1,9 +1,7 @@
 -- The call that a line makes: for each word the centre's call with the values of the line in their order, and what it leaves. A bad line, and one
 -- that makes no call, is done with nothing.
-use Rattle.std.specs.Prelude.{not, cond, List, [], ◌∷◌, ℕ, ◌-◌, eqb, get_or, take, drop}
+use Rattle.std.specs.Prelude.{not, cond, List, [], ◌∷◌, ℕ, ◌-◌, eqb, get_or, take, drop, Option, Some, None}
 use Rattle.directory.specs.declared.Participant.{Participant}
-use Rattle.seat.specs.declared.settings.Limit.{Limit}
-use Rattle.seat.specs.declared.settings.Limit.TheVariants.{None, Of}
 use Rattle.seat.specs.declared.settings.Wish.{Wish}
 use Rattle.centre.specs.declared.Ticket.{Ticket}
 use Rattle.centre.specs.Answers.{Told, done, refused, first}
@@ -45,8 +43,8 @@ unfoldable pub sums_in : Line → List ℕ
 sums_in line = take (line.count - 1) (drop 1 line.values)
 
 -- LPO: 0 for none, n + 1 for the limit n
-unfoldable pub limit_in : ℕ → Limit
-limit_in n = cond (eqb n 0) None (Of (n - 1))
+unfoldable pub limit_in : ℕ → Option ℕ
+limit_in n = cond (eqb n 0) None (Some (n - 1))
 
 -- OUT IN LTK LPO of `set SEAT OPENING OWNER ACCOUNT OUT IN LTK LPO`
 unfoldable pub wish_in : Line → Wish

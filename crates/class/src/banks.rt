@@ -1,46 +1,28 @@
-// The list of banks, which lines name one behind the other.
+// The list of banks, which lines name one after the other.
 ghost use Rattle.std.specs.Prelude.{◌≡◌};
-ghost use Rattle.directory.specs.Gathering.{nobody, none_gathered};
+ghost use Rattle.directory.specs.Gathering.{none_gathered};
 ghost use Rattle.class.specs.Banks.{bank_of, with_bank, with_line};
 
-use directory::{Gathered, Kind, Participant, RECORDS_MOST};
+use directory::{Gathered, Kind, Participant, RECORDS_MOST, no_records};
 use script::{Line, Word};
 
-fn nobody() -> Participant
-    ensures { result ≡ nobody }
-{
-    Participant {
-        code: 0,
-        instant: false,
-        kind: Kind::Owner,
-    }
-}
-
-// The list with no bank.
+// The list with no bank: directory's. The function is public, so it stays.
 pub fn no_banks() -> Gathered
     ensures { result ≡ none_gathered }
 {
-    Gathered {
-        count: 0,
-        records: [nobody(); RECORDS_MOST],
-    }
+    no_records()
 }
 
-// One bank more, at the end. A 17th is counted, so that the list is seen to be too long; behind it nothing changes any more.
-#[tactic(auto, unfolding(crate::specs::Banks::with_bank, directory::specs::Gathering::added))]
+// One bank more, at the end. A 17th is counted, so that the list is seen to be too long; after it nothing changes any more.
+// It is no method of directory's, whose `with` promises `added`: that counts every record.
+#[tactic(auto, unfolding(crate::specs::Banks::with_bank))]
 fn with_bank(g: Gathered, p: Participant) -> Gathered
     ensures { result ≡ with_bank g p }
 {
-    let at = g.count;
-    let mut next = g;
-    if RECORDS_MOST < at {
-        return next;
+    if RECORDS_MOST < g.count {
+        return g;
     }
-    if at < RECORDS_MOST {
-        next.records[at] = p;
-    }
-    next.count = at + 1;
-    next
+    g.with(p)
 }
 
 #[tactic(auto, unfolding(crate::specs::Banks::bank_of))]
@@ -54,31 +36,22 @@ fn bank(code: u64, instant: u64, kind: Kind) -> Participant
     }
 }
 
-// The list of banks behind a line.
+// The list of banks after a line.
 #[tactic(auto, unfolding(crate::specs::Banks::with_line, crate::specs::Banks::with_word))]
 pub fn with_line(g: Gathered, line: Line) -> Gathered
     ensures { result ≡ with_line g line }
 {
-    let word = line.word;
-    let values = line.values;
     if !line.good {
         return g;
     }
-    match word {
+    // An owner's line names no other bank, so what it says of instant payments stands second.
+    let [code, named, instant, ..] = line.values;
+    match line.word {
         Word::Nobody => no_banks(),
-        Word::Owner => with_bank(g, bank(values[0], values[1], Kind::Owner)),
-        Word::Direct => with_bank(g, bank(values[0], values[2], Kind::Direct(values[1]))),
-        Word::Indirect => with_bank(g, bank(values[0], values[2], Kind::Indirect(values[1]))),
-        Word::Provider => with_bank(g, bank(values[0], values[2], Kind::Provider(values[1]))),
-        Word::Blank => g,
-        Word::Room => g,
-        Word::Open => g,
-        Word::Close => g,
-        Word::Set => g,
-        Word::Submit => g,
-        Word::Back => g,
-        Word::Read => g,
-        Word::Slip => g,
-        Word::Unknown => g,
+        Word::Owner => with_bank(g, bank(code, line.values[1], Kind::Owner)),
+        Word::Direct => with_bank(g, bank(code, instant, Kind::Direct(named))),
+        Word::Indirect => with_bank(g, bank(code, instant, Kind::Indirect(named))),
+        Word::Provider => with_bank(g, bank(code, instant, Kind::Provider(named))),
+        _ => g,
     }
 }

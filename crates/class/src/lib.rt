@@ -1,4 +1,4 @@
-// What a line of a lesson does: the list of banks behind it, and the call that it makes with its values. Document 01, "Calls and refusals".
+// What a line of a lesson does: the list of banks after it, and the call that it makes with its values. Document 01, "Calls and refusals".
 // It knows nothing of how a line is read (`script`) and of what is shown of an answer (`lesson`). The list of banks stands in
 // `specs/Banks.antt`, the calls in `specs/Lines.antt`, the bytes that hexadecimal digits write in `specs/Digits.antt`.
 #![tactic(auto)]

@@ -9,9 +9,8 @@ use Rattle.slip.specs.Meaning.{openings}
 use Rattle.directory.specs.declared.Gathered.{Gathered}
 use Rattle.directory.specs.Gathering.{gathered, directory_in}
 use Rattle.seat.specs.declared.settings.Wish.{Wish}
-use Rattle.centre.specs.declared.Answer.{Answer}
 use Rattle.centre.specs.declared.Ticket.{Ticket}
-use Rattle.centre.specs.Answers.{Told, told}
+use Rattle.centre.specs.Answers.{Answer, Told, told}
 use Rattle.centre.specs.Calls.{open_told, open_after, set_told, set_after, read_told}
 use Rattle.centre.specs.Submit.{submit_told, submit_after, submit_slip}
 use Rattle.centre.proofs.LentDirectories.{open_by, set-by, submit-by, read_by}

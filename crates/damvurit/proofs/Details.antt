@@ -2,6 +2,7 @@
 -- sheet, a field is one of fourteen, and who is not taken failed check 1 or 2. And no opening number is above 65,536. So every result fits a
 -- number with room to spare.
 -- Assumes nothing.
+use Rattle.std.specs.Prelude.{Option, Some, None}
 use mathlib.Core.Path.{◌≡◌, refl}
 use mathlib.Core.Bool.{Bool, true, false, not, ◌&&◌, cond}
 use mathlib.Core.List.{List, [], ◌∷◌, map}
@@ -18,13 +19,12 @@ use Rattle.sheet.specs.Answer.{Reading, accepted, refused as refused_at, reading
 use Rattle.sheet.specs.Right.{Right, broken, long}
 use Rattle.sheet.proofs.Reading.{reading-right}
 use Rattle.outline.specs.Rows.{Row, rows_of}
-use Rattle.message.specs.declared.kinds.Body.{Body}
-use Rattle.message.specs.declared.kinds.Body.TheVariants.{Of, Unknown}
 use Rattle.message.specs.Fields.{Field, fields_of}
-use Rattle.message.specs.Message.{start_in, length_in, message_of}
+use Rattle.message.specs.Message.{spot_in, message_of}
 use Rattle.message.specs.Held.{Held, kind_of, held_of}
 use Rattle.message.specs.Good.{is_good, goes_with, first_bad, lowest_bad}
-use Rattle.message.specs.declared.Answer.TheVariants.{BadField, Good}
+use Rattle.std.specs.Prelude.{Ok}
+use Rattle.message.specs.declared.Refusal.TheVariants.{BadField}
 use Rattle.message.specs.declared.Received.{Received}
 use Rattle.message.specs.Received.{by_number, refusal, judged, received_in, received_as, received_from, received_of}
 use Rattle.message.specs.Lowest.{number_of}
@@ -113,13 +113,13 @@ either-low false here rest p q = q
 judged-low : (kind : Kind) (held : List Held) (bad : ℕ) → bad ≤ detail_most → detail_of (judged kind held bad) ≤ detail_most
 judged-low kind held bad few =
     either-low (eqb bad 0)
-    (record { answer = Good (message_of kind held); starts = by_number (map start_in held); lengths = by_number (map length_in held) })
+    (record { answer = Ok (message_of kind held); spots = by_number (map spot_in held) })
     (refusal (BadField bad)) (omega arith) few
 
-as-low : (body : Body) (rows : List Row) → detail_of (received_as body rows) ≤ detail_most
+as-low : (body : Option Kind) (rows : List Row) → detail_of (received_as body rows) ≤ detail_most
 unfolding received_as received_in
-as-low Unknown rows = omega arith
-as-low (Of kind) rows =
+as-low None rows = omega arith
+as-low (Some kind) rows =
     let held = held_of kind rows in
     judged-low kind held (lowest_bad kind held)
     (omega (arith, bad-among (λ (number : ℕ). goes_with kind number held) 1 (fields_of kind) held, fields-few kind))

@@ -18,9 +18,9 @@ use Rattle.layout.specs.declared.rows.Account.{Account}
 use Rattle.layout.specs.Rows.{account_row}
 use Rattle.journal.specs.Steps.{sum_most, settings_fit}
 use Rattle.seat.specs.Settings.{block_number, limit_number, settings_of}
-use Rattle.centre.specs.declared.Answer.{Answer}
-use Rattle.centre.specs.declared.Answer.TheVariants.{Opened, Holds, Says}
-use Rattle.centre.specs.Answers.{told, slip_values}
+use Rattle.std.specs.Prelude.{Ok}
+use Rattle.centre.specs.declared.answers.Done.TheVariants.{Opened, Holds, Says}
+use Rattle.centre.specs.Answers.{Answer, told, slip_values}
 use Rattle.damvurit.specs.Flat.{flat_good, flat_directory}
 use Rattle.damvurit.specs.Boundary.{detail_unit, out_of, seven, six, open_result, result_number, limit_of, ltk_of, wish_of}
 use Rattle.damvurit.proofs.Formed.{number-low}
@@ -39,15 +39,15 @@ module _ (answer : Answer) where
   detail-back = add-mul-div_left (told answer).number (told answer).detail (omega arith) ∙ rw (div-eq_of_lt small) (omega arith)
 
 -- what is given back comes whole: an opening number, the seven numbers of an account, the six of a slip
-pub opening-whole : (opening : ℕ) → open_result (told (Opened opening)) ≡ detail_unit * opening
+pub opening-whole : (opening : ℕ) → open_result (told (Ok (Opened opening))) ≡ detail_unit * opening
 unfolding open_result result_number told out_of
 opening-whole opening = omega arith
 
-pub account-whole : (account : Account) → seven (told (Holds account)) ≡ account_row account
+pub account-whole : (account : Account) → seven (told (Ok (Holds account))) ≡ account_row account
 unfolding told out_of account_row
 account-whole account = refl
 
-pub slip-whole : (slip : Slip) → six (told (Says slip)) ≡ slip_values slip
+pub slip-whole : (slip : Slip) → six (told (Ok (Says slip))) ≡ slip_values slip
 unfolding told out_of slip_values
 slip-whole slip = refl
 

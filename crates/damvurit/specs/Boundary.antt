@@ -1,12 +1,10 @@
 -- What C gets of an answer, and what it says of a wish. Document 01 gives each call a number, a detail and values; how they go through C is our
 -- own. Which call is refused when, and what it leaves, is said in `centre` alone: here are only the forms. That nothing is lost in them, that a
 -- result gives back its parts and that settings are refused exactly where they could not be stored is proved in `proofs/Meant.antt`.
-use Rattle.std.specs.Prelude.{◌&&◌, cond, List, ℕ, ◌+◌, ◌-◌, ◌*◌, leb, eqb, length, get_or, replicate}
+use Rattle.std.specs.Prelude.{◌&&◌, cond, List, ℕ, ◌+◌, ◌-◌, ◌*◌, leb, eqb, length, get_or, replicate, Option, Some, None}
 use Rattle.slip.specs.declared.Slip.{Slip}
 use Rattle.sheet.specs.Grammar.{sheet_most}
 use Rattle.journal.specs.Steps.{sum_most}
-use Rattle.seat.specs.declared.settings.Limit.{Limit}
-use Rattle.seat.specs.declared.settings.Limit.TheVariants.{Of, None}
 use Rattle.seat.specs.declared.settings.Wish.{Wish}
 use Rattle.centre.specs.declared.Ticket.{Ticket}
 use Rattle.centre.specs.Answers.{Told}
@@ -50,8 +48,8 @@ slip_of kind status check seat opening step =
     record { kind = kind; status = status; check = check; seat = seat; opening = opening; step = step }
 
 -- LPO: 0 for none, n + 1 for n
-unfoldable pub limit_of : ℕ → Limit
-limit_of lpo = cond (eqb lpo 0) None (Of (lpo - 1))
+unfoldable pub limit_of : ℕ → Option ℕ
+limit_of lpo = cond (eqb lpo 0) None (Some (lpo - 1))
 
 -- a block is 0 or 1. Another number is a bad number, refusal 6, in 6's place of the order: so the LTK that goes with it is one above the
 -- highest, which no settings may have

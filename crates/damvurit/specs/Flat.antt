@@ -2,7 +2,7 @@
 -- code; instant, 0 or 1; the kind, 0 owner, 1 direct branch, 2 indirect branch, 3 provider; and the code that it names, 0 for an owner.
 -- Numbers in no such form stand for no records at all. A directory without a record is unfit, so they get refusal 2, in its place of the order.
 -- Codes are looked at by the directory's own fitness, not here.
-use Rattle.std.specs.Prelude.{Bool, true, false, not, ◌&&◌, ◌||◌, cond, List, [], ◌∷◌, ℕ, leb, eqb}
+use Rattle.std.specs.Prelude.{Bool, true, false, not, ◌&&◌, ◌||◌, cond, List, [], ◌∷◌, ℕ, leb, eqb, Option, Some, None}
 use Rattle.directory.specs.declared.Kind.{Kind}
 use Rattle.directory.specs.declared.Kind.TheVariants.{Owner, Direct, Indirect, Provider}
 use Rattle.directory.specs.declared.Participant.{Participant}
@@ -21,6 +21,15 @@ record_good instant kind named = leb instant 1 && leb kind 3 && (not (eqb kind 0
 
 unfoldable pub record_of : ℕ → ℕ → ℕ → ℕ → Participant
 record_of code instant kind named = record { code = code; instant = eqb instant 1; kind = kind_of kind named }
+
+-- the record that a row of numbers is: four numbers, and a good one
+unfoldable pub record_in : List ℕ → Option Participant
+record_in [] = None
+record_in (code ∷ []) = None
+record_in (code ∷ instant ∷ []) = None
+record_in (code ∷ instant ∷ kind ∷ []) = None
+record_in (code ∷ instant ∷ kind ∷ named ∷ []) = cond (record_good instant kind named) (Some (record_of code instant kind named)) None
+record_in (code ∷ instant ∷ kind ∷ named ∷ more ∷ rest) = None
 
 -- four numbers for each record, and each record good
 unfoldable pub flat_good : List ℕ → Bool

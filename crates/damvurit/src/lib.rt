@@ -38,8 +38,7 @@ pub fn damvurit_lay_out(room: &mut [u64]) -> u64
     ensures result_value { result ≡ result_number (lay_told room.old) }
     ensures room_after { room.new ≡ lay_after room.old }
 {
-    let answer = lay_out(room);
-    result_of(answer)
+    result_of(lay_out(room))
 }
 
 // Opens a seat with two sums for each record of the directory. The detail is the opening number.
@@ -47,8 +46,7 @@ pub fn damvurit_open(room: &mut [u64], dir: &[u64], seat: u64, sums: &[u64]) -> 
     ensures result_value { result ≡ open_result (open_told (flat_directory dir.now) seat sums.now room.old) }
     ensures room_after { room.new ≡ open_after (flat_directory dir.now) seat sums.now room.old }
 {
-    let g = gather_flat(dir);
-    let answer = open_among(room, g, seat, sums);
+    let answer = open_among(room, gather_flat(dir), seat, sums);
     result_of(answer) + DETAIL_UNIT * opening_in(answer)
 }
 
@@ -57,8 +55,7 @@ pub fn damvurit_close(room: &mut [u64], seat: u64, opening: u64) -> u64
     ensures result_value { result ≡ result_number (close_told (ticket_of seat opening) room.old) }
     ensures room_after { room.new ≡ close_after (ticket_of seat opening) room.old }
 {
-    let answer = close_seat(room, Ticket { seat, opening });
-    result_of(answer)
+    result_of(close_seat(room, Ticket { seat, opening }))
 }
 
 // Sets an account's blocks and limits, as one step. A block is 0 or 1; LPO is 0 for none and n + 1 for n.
@@ -77,10 +74,9 @@ pub fn damvurit_set(
     ensures result_value { result ≡ result_number (set_told (flat_directory dir.now) (ticket_of seat opening) owner account (wish_of block_out block_in ltk lpo) room.old) }
     ensures room_after { room.new ≡ set_after (flat_directory dir.now) (ticket_of seat opening) owner account (wish_of block_out block_in ltk lpo) room.old }
 {
-    let g = gather_flat(dir);
+    let ticket = Ticket { seat, opening };
     let wish = wish_of(block_out, block_in, ltk, lpo);
-    let answer = set_among(room, g, Ticket { seat, opening }, owner, account, wish);
-    result_of(answer)
+    result_of(set_among(room, gather_flat(dir), ticket, owner, account, wish))
 }
 
 // Submits a sheet for a sender on a date (yyyymmdd), and writes its slip. The detail is the place, the field or the check.
@@ -98,9 +94,8 @@ pub fn damvurit_submit(
     ensures room_after { room.new ≡ submit_after (flat_directory dir.now) (ticket_of seat opening) sender date sheet.now slip.old room.old }
     ensures slip_after { slip.new ≡ submit_slip (flat_directory dir.now) (ticket_of seat opening) sender date sheet.now slip.old room.old }
 {
-    let g = gather_flat(dir);
-    let answer = submit_among(room, g, Ticket { seat, opening }, sender, date, sheet, slip);
-    result_of(answer)
+    let ticket = Ticket { seat, opening };
+    result_of(submit_among(room, gather_flat(dir), ticket, sender, date, sheet, slip))
 }
 
 // Takes back the last step.
@@ -108,8 +103,7 @@ pub fn damvurit_take_back(room: &mut [u64], seat: u64, opening: u64) -> u64
     ensures result_value { result ≡ result_number (back_told (ticket_of seat opening) room.old) }
     ensures room_after { room.new ≡ back_after (ticket_of seat opening) room.old }
 {
-    let answer = take_back(room, Ticket { seat, opening });
-    result_of(answer)
+    result_of(take_back(room, Ticket { seat, opening }))
 }
 
 // Reads an account: opening sum, balance, turnover, block out, block in, LTK, LPO.
@@ -125,8 +119,13 @@ pub fn damvurit_read(
     ensures result_value { result ≡ result_number (read_told (flat_directory dir.now) (ticket_of seat opening) owner account room.now) }
     ensures out_after { out.new ≡ seven (read_told (flat_directory dir.now) (ticket_of seat opening) owner account room.now) }
 {
-    let g = gather_flat(dir);
-    let answer = read_among(room, g, Ticket { seat, opening }, owner, account);
+    let answer = read_among(
+        room,
+        gather_flat(dir),
+        Ticket { seat, opening },
+        owner,
+        account,
+    );
     *out = account_in(answer);
     result_of(answer)
 }
@@ -152,8 +151,7 @@ pub fn damvurit_write_slip(
         opening,
         step,
     };
-    let answer = write_slip(s, slip);
-    result_of(answer)
+    result_of(write_slip(s, slip))
 }
 
 // Reads a slip: kind, status, check, seat, opening, step.

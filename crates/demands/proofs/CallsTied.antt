@@ -14,8 +14,7 @@ use denote.Triple.Clauses.{AtExit}
 use borrow.Fn.Kinds.{ParamKind, ResultKind, Dens, res_t, ended_of, Out}
 use Rattle.directory.specs.declared.Participant.{Participant}
 use Rattle.directory.specs.Gathering.{directory_in}
-use Rattle.centre.specs.declared.Answer.{Answer}
-use Rattle.centre.specs.Answers.{told}
+use Rattle.centre.specs.Answers.{Answer, told}
 use Rattle.centre.specs.Calls.{lay_told, lay_after}
 use Rattle.centre.proofs.lay_out.Kinds as lay-out-kinds
 use Rattle.centre.proofs.lay_out.Reads as lay-out-reads

@@ -1,6 +1,7 @@
 -- What a call that is done says of its seat: none of the refusals in front of it held, so the seat's own call is done; and a set or a message that
 -- is done was one possible step of an open seat with a free place.
 -- Assumes nothing.
+use Rattle.std.specs.Prelude.{Ok, Err}
 use mathlib.Core.Path.{◌≡◌, refl, sym, ◌∙◌}
 use mathlib.Core.Bool.{Bool, true, false, not, ◌&&◌, cond, false≢true}
 use mathlib.Core.List.{List, [], ◌∷◌}
@@ -13,8 +14,8 @@ use Rattle.shape.specs.Dates.{is_date}
 use Rattle.shape.proofs.Tests.{and_left, or_left, or_right}
 use Rattle.slip.specs.Meaning.{slip_long, openings, steps}
 use Rattle.message.specs.declared.Message.{Message}
-use Rattle.message.specs.declared.Answer.{Answer}
-use Rattle.message.specs.declared.Answer.TheVariants.{IllFormed, BadField, Good}
+use Rattle.message.specs.Message.{Answer}
+use Rattle.message.specs.declared.Refusal.TheVariants.{IllFormed, BadField}
 use Rattle.message.specs.Received.{received_of}
 use Rattle.message.specs.Lowest.{number_of}
 use Rattle.directory.specs.declared.Participant.{Participant}
@@ -24,7 +25,6 @@ use Rattle.layout.specs.declared.rows.Step.{Step}
 use Rattle.layout.specs.Seat.{head_of, account_of}
 use Rattle.journal.specs.Steps.{settings_fit}
 use Rattle.journal.specs.Working.{possible, stepped}
-use Rattle.seat.specs.declared.calls.Answer.TheVariants.{Done}
 use Rattle.seat.specs.declared.settings.Wish.{Wish}
 use Rattle.seat.specs.Fit.{seat_fits}
 use Rattle.seat.specs.Settings.{settings_of}
@@ -74,7 +74,7 @@ few-steps s e o n =
     omega arith
 
 -- a message comes up in a fit directory, from a sender with a code
-case-arises : (dir : List Participant) (sender today : ℕ) (sheet : List ℕ) (m : Message) → (received_of sheet).answer ≡ Good m → is_fit dir ≡ true
+case-arises : (dir : List Participant) (sender today : ℕ) (sheet : List ℕ) (m : Message) → (received_of sheet).answer ≡ Ok m → is_fit dir ≡ true
     → sender ≤ code_most → Arises (case_of dir sender today m)
 unfolding case_of
 case-arises dir sender today sheet m good fit code =
@@ -82,7 +82,7 @@ case-arises dir sender today sheet m good fit code =
 
 module _ (dir : List Participant) (s : List ℕ) where
   pub open-is-done : (seat : ℕ) (sums : List ℕ) → is_done (tells dir (opening seat sums) s) ≡ true
-      → (is_fit dir ≡ true) × (open_answer dir sums s ≡ Done)
+      → (is_fit dir ≡ true) × (open_answer dir sums s ≡ Ok tt)
   unfolding tells open_answer is_done
   open-is-done seat sums e =
       let last : Told = cond (not (sums_good dir sums)) (refused 6) (done (suc (head_of s).opening ∷ [])) in
@@ -94,11 +94,11 @@ module _ (dir : List Participant) (s : List ℕ) where
       (not-false (is_fit dir) one.0, rw (two.0, three.0, four.0))
 
   module _ (ticket : Ticket) where
-    pub close-is-done : is_done (act_tells dir ticket close s) ≡ true → close_answer ticket.opening s ≡ Done
+    pub close-is-done : is_done (act_tells dir ticket close s) ≡ true → close_answer ticket.opening s ≡ Ok tt
     unfolding act_tells close_answer is_done
     close-is-done e = rw (passed (no_ticket ticket.opening s) (refused 3) (done []) refl e).0
 
-    pub back-is-done : is_done (act_tells dir ticket take_back s) ≡ true → back_answer ticket.opening s ≡ Done
+    pub back-is-done : is_done (act_tells dir ticket take_back s) ≡ true → back_answer ticket.opening s ≡ Ok tt
     unfolding act_tells back_answer is_done
     back-is-done e =
         let last : Told = cond (eqb (head_of s).steps 0) (refused 10) (done []) in
@@ -107,7 +107,7 @@ module _ (dir : List Participant) (s : List ℕ) where
         rw (one.0, two.0)
 
     set-is-done : (owner number : ℕ) (wish : Wish) → is_done (act_tells dir ticket (set owner number wish) s) ≡ true
-        → (is_fit dir ≡ true) × (set_answer ticket.opening (found dir owner) number (settings_of wish) s ≡ Done)
+        → (is_fit dir ≡ true) × (set_answer ticket.opening (found dir owner) number (settings_of wish) s ≡ Ok tt)
     unfolding act_tells set_answer is_done
     set-is-done owner number wish e =
         let bad : Bool = not (account_named (found dir owner) number && settings_fit (settings_of wish)) in
@@ -176,9 +176,9 @@ module _ (dir : List Participant) (s : List ℕ) where
         go : (a : Answer) → (received_of sheet).answer ≡ a → is_fit dir ≡ true → (head_of s).opened ≡ 1 → sender ≤ code_most
             → eqb (head_of s).steps steps ≡ false → eqb (number_of a).0 7 ≡ false → eqb (number_of a).0 8 ≡ false
             → not_taken (verdict_on (case_of dir sender today) a s) ≡ false → OneStep (stepped (step_on (case_of dir sender today) a s) s) s
-        go (IllFormed place) q known open-now code free seven eight taken = absurd (false≢true (sym seven))
-        go (BadField number) q known open-now code free seven eight taken = absurd (false≢true (sym eight))
-        go (Good m) q known open-now code free seven eight taken =
+        go (Err (IllFormed place)) q known open-now code free seven eight taken = absurd (false≢true (sym seven))
+        go (Err (BadField number)) q known open-now code free seven eight taken = absurd (false≢true (sym eight))
+        go (Ok m) q known open-now code free seven eight taken =
             let c : Case = case_of dir sender today m in
             record {
               one = judged_step c s;

@@ -1,13 +1,13 @@
 -- What is easy to get wrong is right. A take-back gives the very numbers back; a limit of 0 is stored as 1 and none as 0, and neither is above 1.
 -- That a UETR and an identifier stay used stands in `Repeats`.
 -- Assumes nothing.
+use Rattle.std.specs.Prelude.{Some, None}
 use mathlib.Core.Path.{◌≡◌}
 use mathlib.Core.Bool.{true, false}
 use mathlib.Core.List.{List}
 use Prim.Native.Nat.{ℕ}
 use Rattle.layout.specs.declared.rows.Account.{Account}
 use Rattle.layout.specs.declared.rows.Step.{Step}
-use Rattle.seat.specs.declared.settings.Limit.TheVariants.{Of, None}
 use Rattle.journal.specs.Working.{stepped, backed}
 use Rattle.journal.specs.Limits.{turnover_above, turnover_shut}
 use Rattle.seat.specs.Settings.{limit_number}
@@ -26,7 +26,7 @@ module _ (x : Step) (s : List ℕ) (t : Taken x s) where
 
 -- a limit of 0, and none
 module _ (a : Account) (amount : ℕ) where
-  zero-limit : a.settings.lpo ≡ limit_number (Of 0) → (turnover_shut a ≡ true) × (turnover_above a amount ≡ false)
+  zero-limit : a.settings.lpo ≡ limit_number (Some 0) → (turnover_shut a ≡ true) × (turnover_above a amount ≡ false)
   unfolding turnover_shut turnover_above limit_number
   zero-limit e = (rw e, rw e)
 

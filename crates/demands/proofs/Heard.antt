@@ -1,6 +1,7 @@
 -- A submit that nothing but a check refuses: the first eleven rows of the table do not apply, so the room and the directory are fit, the ticket is
 -- good, the numbers are in range, the buffer and the journal have room, and the sheet is a message.
 -- Assumes nothing.
+use Rattle.std.specs.Prelude.{Ok, Err}
 use mathlib.Core.Path.{◌≡◌, refl, sym}
 use mathlib.Core.Bool.{Bool, true, false, not, ◌&&◌, ◌||◌, false≢true}
 use mathlib.Core.List.{List}
@@ -12,8 +13,8 @@ use Rattle.shape.specs.Dates.{is_date}
 use Rattle.shape.proofs.Tests.{at_place}
 use Rattle.slip.specs.Meaning.{slip_long, seats, steps}
 use Rattle.message.specs.declared.Message.{Message}
-use Rattle.message.specs.declared.Answer.{Answer}
-use Rattle.message.specs.declared.Answer.TheVariants.{IllFormed, BadField, Good}
+use Rattle.message.specs.Message.{Answer}
+use Rattle.message.specs.declared.Refusal.TheVariants.{IllFormed, BadField}
 use Rattle.message.specs.Received.{received_of}
 use Rattle.message.specs.Lowest.{number_of}
 use Rattle.directory.specs.declared.Participant.{Participant}
@@ -63,12 +64,12 @@ module _ (dir : List Participant) (ticket : Ticket) (sender today : ℕ) (sheet 
 -- a sheet that is refused neither by 7 nor by 8 is a message
 pub record Read (a : Answer) : Type 0 where
   pub message : Message
-  pub good : a ≡ Good message
+  pub good : a ≡ Ok message
 
 pub read-good : (a : Answer) → eqb (number_of a).0 7 ≡ false → eqb (number_of a).0 8 ≡ false → Read a
-read-good (IllFormed place) e f = absurd (false≢true (sym e))
-read-good (BadField number) e f = absurd (false≢true (sym f))
-read-good (Good m) e f = record { message = m; good = refl }
+read-good (Err (IllFormed place)) e f = absurd (false≢true (sym e))
+read-good (Err (BadField number)) e f = absurd (false≢true (sym f))
+read-good (Ok m) e f = record { message = m; good = refl }
 
 -- neither of two tests holds
 neither : (t u : Bool) → (t || u) ≡ false → (t ≡ false) × (u ≡ false)

@@ -1,5 +1,6 @@
 -- Demand 2, put together: a message that is heard is carried out exactly where it passes every check, and otherwise answered by the first that fails.
 -- Assumes nothing.
+use Rattle.std.specs.Prelude.{Ok}
 use mathlib.Core.Path.{◌≡◌, refl, sym, ap, subst, ◌∙◌}
 use mathlib.Core.Bool.{Bool, true, false, not, false≢true}
 use mathlib.Core.List.{List, ◌∷◌, ◌++◌}
@@ -14,8 +15,7 @@ use Rattle.table.specs.Checks.{order_of}
 use Rattle.slip.specs.declared.Status.TheVariants.{Accc, Waits}
 use Rattle.slip.specs.Meaning.{status_number}
 use Rattle.message.specs.declared.Message.{Message}
-use Rattle.message.specs.declared.Answer.{Answer}
-use Rattle.message.specs.declared.Answer.TheVariants.{Good}
+use Rattle.message.specs.Message.{Answer}
 use Rattle.message.specs.Received.{received_of}
 use Rattle.message.specs.Due.{Due}
 use Rattle.message.proofs.Due.{due-received}
@@ -98,7 +98,7 @@ unfolding status_number
 waiting-apart k e = eqb-false 3 2 refl (ap (λ (o : Outcome). o.status) e)
 
 module _ (dir : List Participant) (ticket : Ticket) (sender today : ℕ) (sheet slip room : List ℕ)
-    (f : Facts dir ticket sender today sheet slip room) (m : Message) (good : (received_of sheet).answer ≡ Good m) where
+    (f : Facts dir ticket sender today sheet slip room) (m : Message) (good : (received_of sheet).answer ≡ Ok m) where
   abbrev case : Case
   case = case_of dir sender today m
 

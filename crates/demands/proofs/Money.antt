@@ -2,6 +2,7 @@
 -- and each account is as the movement leaves it. A pacs.008 that passes keeps its movement and moves nothing; a message that fails by a check moves
 -- nothing either, nor does a pacs.028.
 -- Assumes nothing.
+use Rattle.std.specs.Prelude.{ℕ, Option, Some, None, Ok}
 use mathlib.Core.Path.{◌≡◌, refl, sym, ap, subst, ◌∙◌}
 use mathlib.Core.Bool.{Bool, true, false, false≢true}
 use mathlib.Core.List.{List}
@@ -11,15 +12,11 @@ use Rattle.table.specs.declared.Kind.TheVariants.{Pacs008, Camt050, Pacs028, Pac
 use Rattle.table.specs.Checks.{order_of, runs}
 use Rattle.slip.specs.Meaning.{status_number}
 use Rattle.message.specs.declared.Message.{Message}
-use Rattle.message.specs.declared.Answer.TheVariants.{Good}
 use Rattle.message.specs.Received.{received_of}
 use Rattle.message.proofs.Shaped.{IsAmount, Moves, shaped}
 use Rattle.directory.specs.declared.Participant.{Participant}
-use Rattle.shape.specs.declared.value.Value.{Value}
-use Rattle.shape.specs.declared.value.Value.TheVariants.{Of, None}
 use Rattle.layout.specs.declared.rows.Step.{Step}
 use Rattle.layout.specs.Seat.{accounts, account_of, step_of, seat_of}
-use Rattle.journal.specs.declared.traces.Earlier.TheVariants as earlier
 use Rattle.judge.specs.declared.case.Case.{Case}
 use Rattle.seat.specs.Fit.{open_fits}
 use Rattle.judge.specs.Values.{or_zero}
@@ -28,7 +25,7 @@ use Rattle.judge.specs.Case.{movement_of, case_of, Arises}
 use Rattle.judge.specs.Rows.{asked_after, due_to, kept_in as transfer_kept, movement_for, movement_in}
 use Rattle.judge.specs.Verdict.{verdict, told_of, outcome, carried, awaits, step_number, closed_by, step_made, step_by, judged_step}
 use Rattle.journal.specs.declared.results.Outcome.{Outcome}
-use Rattle.directory.specs.declared.Found.{Found}
+use Rattle.directory.specs.declared.Listed.{Listed}
 use Rattle.directory.specs.Directory.{found_as, bank_found}
 use Rattle.judge.proofs.Passed.{money-there, instructed-is, instructed-bank}
 use Rattle.judge.proofs.Movements.{Movable, payment-moves, transfer-moves, answer-moves}
@@ -54,6 +51,7 @@ use Rattle.demands.proofs.Decided.{passed_as, none-taken, outcome-passed, Rests,
 use Rattle.demands.proofs.Heard.{Facts}
 use Rattle.demands.proofs.Taken.{arises, seat-open, account-after, recorded}
 use Rattle.demands.proofs.Movement.{kept_in, rests-still, rests, moves_so, waits-so, carries}
+use Rattle.journal.specs.Traces.{placed}
 
 -- how each kind ends that passes: money is moved, or the transfer waits
 payment-waits : (c : Case) (s : List ℕ) → (carried Pacs008 (passed_as Pacs008 c s) ≡ false) × (awaits Pacs008 (passed_as Pacs008 c s) ≡ true)
@@ -86,21 +84,21 @@ closes-none Pacs028 check c s other = refl
 closes-none Pacs002 check c s other = absurd (other refl)
 
 -- an answer that passes closes the step that is due
-closes-found : (kind : Kind) (check : ℕ) (c : Case) (s : List ℕ) → kind ≡ Pacs002 → check ≡ 0 → (k : ℕ) (x : Step) → due_to c s ≡ earlier.Of k x
+closes-found : (kind : Kind) (check : ℕ) (c : Case) (s : List ℕ) → kind ≡ Pacs002 → check ≡ 0 → (k : ℕ) (x : Step) → due_to c s ≡ Some (placed k x)
     → closed_by kind check (due_to c s) ≡ suc k
 unfolding closed_by step_number
 closes-found kind check c s answer none k x found = rw (answer, none, found)
 
 -- two given numbers that are the same
-of-value : (i j : ℕ) → Of i ≡ Of j → i ≡ j
+of-value : (i j : ℕ) → Some i ≡ Some j → i ≡ j
 of-value i j e = cc
 
 -- the bank that a pacs.008 names as the one to answer
-receiver-given : (c : Case) (s : List ℕ) → Arises c → verdict c s ≡ 0 → c.message.kind ≡ Pacs008 → (n : ℕ) × (c.message.instructed ≡ Of n)
-receiver-given c s a none same = go c.message.instructed (subst (λ (f : Found). bank_found f ≡ true) (instructed-is c a) (instructed-bank c s none same))
+receiver-given : (c : Case) (s : List ℕ) → Arises c → verdict c s ≡ 0 → c.message.kind ≡ Pacs008 → (n : ℕ) × (c.message.instructed ≡ Some n)
+receiver-given c s a none same = go c.message.instructed (subst (λ (f : Option Listed). bank_found f ≡ true) (instructed-is c a) (instructed-bank c s none same))
   where
-    go : (v : Value) → bank_found (found_as a.dir v) ≡ true → (n : ℕ) × (v ≡ Of n)
-    go (Of code) b = (code, refl)
+    go : (v : Option ℕ) → bank_found (found_as a.dir v) ≡ true → (n : ℕ) × (v ≡ Some n)
+    go (Some code) b = (code, refl)
     go None b = absurd (false≢true b)
 
 -- a kind is no answer's
@@ -115,7 +113,7 @@ unfolding is-answer
 no_answer kind k same other e = false≢true (sym other ∙ ap is-answer (sym same ∙ e))
 
 module _ (dir : List Participant) (ticket : Ticket) (sender today : ℕ) (sheet slip room : List ℕ)
-    (f : Facts dir ticket sender today sheet slip room) (m : Message) (good : (received_of sheet).answer ≡ Good m) where
+    (f : Facts dir ticket sender today sheet slip room) (m : Message) (good : (received_of sheet).answer ≡ Ok m) where
   abbrev case : Case
   case = case_of dir sender today m
 
@@ -187,8 +185,8 @@ module _ (dir : List Participant) (ticket : Ticket) (sender today : ℕ) (sheet 
     closes-nothing kind same other = closes-none m.kind (verdict case place) case place (no_answer m.kind kind same other)
 
     -- the movement of a message of a kind that moves money: what its step keeps, and each account as the movement leaves it
-    module _ (kind : Kind) (same : m.kind ≡ kind) (move : Move) (from : (movement_in case place).debit ≡ Of move.debit)
-        (to : (movement_in case place).credit ≡ Of move.credit) (sum : (movement_in case place).amount ≡ move.amount)
+    module _ (kind : Kind) (same : m.kind ≡ kind) (move : Move) (from : (movement_in case place).debit ≡ Some move.debit)
+        (to : (movement_in case place).credit ≡ Some move.credit) (sum : (movement_in case place).amount ≡ move.amount)
         (done : carried kind (passed_as kind case place) ≡ true) (over : awaits kind (passed_as kind case place) ≡ false) where
       carries-move : (number : ℕ) → closed ≡ number → outcome case place ≡ accepted
           → Recorded dir ticket sender today sheet slip room m accepted (answering move number)
@@ -268,14 +266,14 @@ module _ (dir : List Participant) (ticket : Ticket) (sender today : ℕ) (sheet 
         let closing : Closing (verdict case place) = subst (λ (n : ℕ). Closing n) (sym none) refl in
         let d : Answered case place = answered case place (due-there case place same closing) in
         let x : Step = step_of place d.place in
-        let found : due_to case place ≡ earlier.Of d.place x = d.found ∙ ap (earlier.Of d.place) d.there in
-        let kept : movement_in case place ≡ transfer_kept (earlier.Of d.place x) =
-        moves-kept case place comes-up none same d ∙ ap (λ (y : Step). transfer_kept (earlier.Of d.place y)) d.there in
+        let found : due_to case place ≡ Some (placed d.place x) = d.found ∙ ap (λ (y : Step). Some (placed d.place y)) d.there in
+        let kept : movement_in case place ≡ transfer_kept (Some (placed d.place x)) =
+        moves-kept case place comes-up none same d ∙ ap (λ (y : Step). transfer_kept (Some (placed d.place y))) d.there in
         let opened : open_fits place ≡ true = seat-open dir ticket sender today sheet slip room f m good in
         let able : Movable Pacs002 (movement_in case place) = answer-moves case place comes-up opened none same in
         let move : Move = record { debit = x.debit; credit = x.credit; amount = x.amount } in
-        let from : (movement_in case place).debit ≡ Of x.debit = ap (λ (y : Movement). y.debit) kept in
-        let to : (movement_in case place).credit ≡ Of x.credit = ap (λ (y : Movement). y.credit) kept in
+        let from : (movement_in case place).debit ≡ Some x.debit = ap (λ (y : Movement). y.debit) kept in
+        let to : (movement_in case place).credit ≡ Some x.credit = ap (λ (y : Movement). y.credit) kept in
         let sum : (movement_in case place).amount ≡ x.amount = ap (λ (y : Movement). y.amount) kept in
         let low : x.debit < accounts = subst (λ (n : ℕ). n < accounts) (of-value able.debit x.debit (sym able.debited ∙ from)) able.debit-low in
         let end = answer-carried case place in

@@ -1,12 +1,12 @@
 -- What the step of a message does to an account: nothing where the message is not carried out; where it is, the movement, which is one account's
 -- turnover where both sides are one account, else a debit of the one and a credit of the other.
 -- Assumes nothing.
+use Rattle.std.specs.Prelude.{Some}
 use mathlib.Core.Path.{◌≡◌, refl, sym, ap, ◌∙◌}
 use mathlib.Core.Bool.{Bool, true, false, ◌&&◌, cond, false≢true}
 use Prim.Native.Nat.{ℕ}
 use lib.Dec.{eqb}
 use borrow.Author.Tests.{eqb-true, eqb-false, eq-eqb, ne_eqb}
-use Rattle.shape.specs.declared.value.Value.TheVariants.{Of}
 use Rattle.shape.proofs.Tests.{and_left, and_right}
 use Rattle.layout.specs.declared.rows.Account.{Account}
 use Rattle.layout.specs.declared.rows.Step.{Step}
@@ -85,12 +85,12 @@ module _ (c : Case) (m : Movement) (n : ℕ) (o : Outcome) where
   rests e i a = moves-nothing (step_made c m n o) i a is-no-set (made-moves c m n o ∙ e)
 
   -- between two accounts it keeps that movement; where it is carried out, the accounts are so
-  module _ (move : Move) (from : m.debit ≡ Of move.debit) (to : m.credit ≡ Of move.credit) (sum : m.amount ≡ move.amount) where
+  module _ (move : Move) (from : m.debit ≡ Some move.debit) (to : m.credit ≡ Some move.credit) (sum : m.amount ≡ move.amount) where
     pub moves_so : carried c.message.kind o ≡ true → awaits c.message.kind o ≡ false → kept_in (step_made c m n o) ≡ answering move n
     unfolding step_made or_zero
     moves_so e f = rw (e, f, from, to, sum)
 
-    pub waits-so : carried c.message.kind o ≡ false → awaits c.message.kind o ≡ true → (receiver : ℕ) → c.message.instructed ≡ Of receiver
+    pub waits-so : carried c.message.kind o ≡ false → awaits c.message.kind o ≡ true → (receiver : ℕ) → c.message.instructed ≡ Some receiver
         → kept_in (step_made c m n o) ≡ record { move = move; receiver = receiver; answers = n }
     unfolding step_made or_zero
     waits-so e f receiver is = rw (e, f, from, to, sum, is)

@@ -1,10 +1,10 @@
 -- A call goes by its own seat. In a fit room only the seat's part is looked at behind the first refusals, so the answer and the slip are functions
 -- of that part alone, and the room left is the room that came with that part put into it. A call that names no seat leaves the room.
 -- Assumes nothing.
+use Rattle.std.specs.Prelude.{Option, Some, None}
 use mathlib.Core.Path.{◌≡◌, refl, sym, ap, subst, ◌∙◌}
 use mathlib.Core.Bool.{Bool, true, false, not, cond}
 use mathlib.Core.List.{List, ◌++◌}
-use mathlib.Core.Option.{Option, none, some}
 use Prim.Native.Nat.{ℕ, suc, ◌<◌}
 use native.Mathlib.Omega.{arith}
 use lib.ListN.{length, drop}
@@ -53,23 +53,23 @@ seat-within : (seat : ℕ) → no_seat seat ≡ false → seat < seats
 unfolding no_seat
 seat-within seat e = leb-false seats seat e
 
-seat-is : (seat k : ℕ) → seat_named seat ≡ some k → (no_seat seat ≡ false) × (seat ≡ k)
+seat-is : (seat k : ℕ) → seat_named seat ≡ Some k → (no_seat seat ≡ false) × (seat ≡ k)
 unfolding seat_named
 seat-is seat k e = go (no_seat seat) refl e
   where
-    go : (b : Bool) → no_seat seat ≡ b → cond b none (some seat) ≡ some k → (no_seat seat ≡ false) × (seat ≡ k)
+    go : (b : Bool) → no_seat seat ≡ b → cond b None (Some seat) ≡ Some k → (no_seat seat ≡ false) × (seat ≡ k)
     go true f g = absurd (let z : ◌≡◌ {A = ℕ} 0 1 = cc in omega arith)
     go false f g = (f, cc)
 
-seat-none : (seat : ℕ) → seat_named seat ≡ none → no_seat seat ≡ true
+seat-none : (seat : ℕ) → seat_named seat ≡ None → no_seat seat ≡ true
 unfolding seat_named
 seat-none seat e = go (no_seat seat) refl e
   where
-    go : (b : Bool) → no_seat seat ≡ b → cond b none (some seat) ≡ none → no_seat seat ≡ true
+    go : (b : Bool) → no_seat seat ≡ b → cond b None (Some seat) ≡ None → no_seat seat ≡ true
     go true f g = f
     go false f g = absurd (let z : ◌≡◌ {A = ℕ} 0 1 = cc in omega arith)
 
-no-seat : (k : ℕ) → ◌≡◌ {A = Option ℕ} none (some k) → ⊥
+no-seat : (k : ℕ) → ◌≡◌ {A = Option ℕ} None (Some k) → ⊥
 no-seat k e = let z : ◌≡◌ {A = ℕ} 0 1 = cc in omega arith
 
 -- a refusal is no call that is done
@@ -130,7 +130,7 @@ module _ (dir : List Participant) (room : List ℕ) (fit : room_fits room ≡ tr
   open-room seat sums = refl
 
   -- each call for a seat
-  own-told : (call : Call) (k : ℕ) → seat_for call ≡ some k → call_told dir call room ≡ tells dir call (seat_of room k)
+  own-told : (call : Call) (k : ℕ) → seat_for call ≡ Some k → call_told dir call room ≡ tells dir call (seat_of room k)
   unfolding seat_for call_told tells
   own-told (opening seat sums) k e =
       let is = seat-is seat k e in
@@ -141,7 +141,7 @@ module _ (dir : List Participant) (room : List ℕ) (fit : room_fits room ≡ tr
   own-told (writing slip buffer) k e = refl
   own-told (reading bytes) k e = refl
 
-  own-slip : (call : Call) (k : ℕ) → seat_for call ≡ some k → call_slip dir call room ≡ writes dir call (seat_of room k)
+  own-slip : (call : Call) (k : ℕ) → seat_for call ≡ Some k → call_slip dir call room ≡ writes dir call (seat_of room k)
   unfolding seat_for call_slip writes
   own-slip (opening seat sums) k e = refl
   own-slip (under ticket act) k e =
@@ -150,7 +150,7 @@ module _ (dir : List Participant) (room : List ℕ) (fit : room_fits room ≡ tr
   own-slip (writing slip buffer) k e = refl
   own-slip (reading bytes) k e = refl
 
-  pub own-answer : (call : Call) (k : ℕ) → seat_for call ≡ some k
+  pub own-answer : (call : Call) (k : ℕ) → seat_for call ≡ Some k
       → answer_of dir call room ≡ (tells dir call (seat_of room k), writes dir call (seat_of room k))
   unfolding answer_of
   own-answer call k e = rw (own-told call k e, own-slip call k e)
@@ -173,7 +173,7 @@ module _ (dir : List Participant) (room : List ℕ) (fit : room_fits room ≡ tr
       ∙ ap (λ (t : Told). behind t (with_seat room seat made) room) (open_told_lem seat sums here)
       ∙ put-left (tells dir (opening seat sums) (seat_of room seat)) room seat made (room-long room fit) (seat-within seat here)
 
-  pub own_room : (call : Call) (k : ℕ) → seat_for call ≡ some k
+  pub own_room : (call : Call) (k : ℕ) → seat_for call ≡ Some k
       → (k < seats) × (call_room dir call room ≡ with_seat room k (leaves dir call (seat_of room k)))
   unfolding seat_for call_room
   own_room (opening seat sums) k e =
@@ -209,7 +209,7 @@ module _ (dir : List Participant) (room : List ℕ) (fit : room_fits room ≡ tr
   act-stays ticket (read owner number) e = refl
 
   -- so a call that is for no seat leaves the room
-  pub none-room : (call : Call) → seat_for call ≡ none → call_room dir call room ≡ room
+  pub none-room : (call : Call) → seat_for call ≡ None → call_room dir call room ≡ room
   unfolding seat_for call_room
   none-room (opening seat sums) e =
       open-room seat sums ∙ behind-refused (open_told dir seat sums room) _ room (open-refused seat sums (seat-none seat e))

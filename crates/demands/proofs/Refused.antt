@@ -7,7 +7,7 @@ use Prim.Native.Nat.{ℕ}
 use lib.Dec.{eqb}
 use lib.ListN.{length}
 use borrow.Author.Tests.{eqb-true, eqb-false, eq-eqb, ne_eqb}
-use Rattle.message.specs.declared.Answer.{Answer}
+use Rattle.message.specs.Message.{Answer}
 use Rattle.message.specs.Received.{received_of}
 use Rattle.message.specs.Due.{Due}
 use Rattle.message.proofs.Due.{answer-due, due-received}

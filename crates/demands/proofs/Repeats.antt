@@ -1,6 +1,7 @@
 -- A UETR and an identifier stay used as long as the step that brought them stands in the journal: the first of two submits stores them, whatever its
 -- result is, so that the check on repeats fails for the second.
 -- Assumes nothing.
+use Rattle.std.specs.Prelude.{Ok}
 use mathlib.Core.Path.{◌≡◌, refl, sym, ap, subst, ◌∙◌}
 use mathlib.Core.Bool.{Bool, true, false, not, ◌||◌, false≢true}
 use mathlib.Core.List.{List, [], ◌∷◌}
@@ -17,8 +18,7 @@ use Rattle.table.specs.declared.Kind.{Kind}
 use Rattle.table.specs.declared.Kind.TheVariants.{Pacs008, Camt050, Pacs028, Pacs002}
 use Rattle.slip.specs.Meaning.{kind_number}
 use Rattle.message.specs.declared.Message.{Message}
-use Rattle.message.specs.declared.Answer.{Answer}
-use Rattle.message.specs.declared.Answer.TheVariants.{Good}
+use Rattle.message.specs.Message.{Answer}
 use Rattle.message.specs.Received.{received_of}
 use Rattle.message.proofs.Due.{due-received}
 use Rattle.directory.specs.declared.Participant.{Participant}
@@ -129,8 +129,8 @@ module _ (dir : List Participant) (ticket : Ticket) (room : List ℕ) (first sec
   abbrev count : ℕ
   count = (head_of (seat_of room ticket.seat)).steps
 
-  first_good : (received_of first.sheet).answer ≡ Good m
-  first_good = due-received first.sheet (Good m) both.first-is
+  first_good : (received_of first.sheet).answer ≡ Ok m
+  first_good = due-received first.sheet (Ok m) both.first-is
 
   first-facts : Facts dir ticket first.sender first.today first.sheet first.slip room
   first-facts = was-heard dir ticket first.sender first.today first.sheet first.slip room both.first_done
@@ -165,8 +165,8 @@ module _ (dir : List Participant) (ticket : Ticket) (room : List ℕ) (first sec
   first-identifier = ap (λ (x : Step). x.id) first_step
 
   -- the second is judged there
-  second-good : (received_of second.sheet).answer ≡ Good n
-  second-good = due-received second.sheet (Good n) both.second_is
+  second-good : (received_of second.sheet).answer ≡ Ok n
+  second-good = due-received second.sheet (Ok n) both.second_is
 
   second-facts : Facts dir ticket second.sender second.today second.sheet second.slip then
   second-facts =

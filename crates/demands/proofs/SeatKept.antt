@@ -1,18 +1,17 @@
 -- Each call leaves a fit seat fit: one that is refused leaves it as it came, and what one that is done makes of it is what the seat's own call
 -- makes, or one step more. A step that was put into a fit seat is taken back without a trace.
 -- Assumes nothing.
+use Rattle.std.specs.Prelude.{Ok}
 use mathlib.Core.Path.{◌≡◌, refl, sym, ap, ◌∙◌}
 use mathlib.Core.Bool.{Bool, true, false}
 use mathlib.Core.List.{List}
-use Prim.Native.Nat.{ℕ, suc}
-use native.Mathlib.Omega.{arith}
+use Prim.Native.Nat.{ℕ}
 use Rattle.directory.specs.declared.Participant.{Participant}
 use Rattle.directory.proofs.Finds.{fit-few}
 use Rattle.layout.specs.Seat.{head_of}
 use Rattle.journal.specs.Working.{stepped, backed}
-use Rattle.seat.specs.declared.calls.Answer.TheVariants.{Done}
-use Rattle.seat.specs.Fit.{closed_seat, open_seat, seat_fits}
-use Rattle.seat.specs.Calls.{open_answer, open_after, close_answer, close_after, back_answer, back_after}
+use Rattle.seat.specs.Fit.{seat_fits}
+use Rattle.seat.specs.Calls.{back_answer, back_after}
 use Rattle.seat.proofs.Answered.{behind-done as seat-done, good-ticket}
 use Rattle.seat.proofs.Kept.{open-keeps, close-keeps, record-keeps, back-keeps}
 use Rattle.seat.proofs.Undone.{open_is, close-zeros, record-undone}
@@ -24,7 +23,7 @@ use Rattle.demands.proofs.InSeat.{act_tells, act_makes, tells, makes, leaves}
 use Rattle.demands.proofs.DoneCalls.{OneStep, open-is-done, close-is-done, back-is-done, set-steps, submit-steps}
 
 -- what the seat's own calls leave where they are done
-backed-is : (ticket : ℕ) (s : List ℕ) → back_answer ticket s ≡ Done → back_after ticket s ≡ backed s
+backed-is : (ticket : ℕ) (s : List ℕ) → back_answer ticket s ≡ Ok tt → back_after ticket s ≡ backed s
 unfolding back_after
 backed-is ticket s d = seat-done (back_answer ticket s) (backed s) s d
 

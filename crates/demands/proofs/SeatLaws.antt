@@ -1,10 +1,10 @@
 -- The centre keeps the laws of a machine of seats, for any directory: so demand 3 holds of it. A room is fit as the calls test it, and a part is
 -- sound where it fits; a part of its own is a seat of a room in which nothing else was done.
 -- Assumes nothing.
+use Rattle.std.specs.Prelude.{Option, Some, None}
 use mathlib.Core.Path.{◌≡◌, refl, sym, ap, ◌∙◌}
 use mathlib.Core.Bool.{Bool, true, false}
 use mathlib.Core.List.{List}
-use mathlib.Core.Option.{Option, none, some}
 use Prim.Native.Nat.{ℕ, ◌*◌, ◌≤◌, ◌<◌}
 use native.Mathlib.Omega.{arith}
 use lib.Dec.{ltb}
@@ -51,11 +51,11 @@ module _ (dir : List Participant) where
     alone-seat = seat-got new_room k part (room-long new_room room_fits_lem) h (fit-long part fit)
 
   -- a call for a seat is for one of the room's
-  within : (call : Call) (k : ℕ) → seat_for call ≡ some k → k < seats
+  within : (call : Call) (k : ℕ) → seat_for call ≡ Some k → k < seats
   within call k e = (own_room dir new_room room_fits_lem call k e).0
 
   -- the part that a call leaves in a fit room
-  part_left : (call : Call) (k : ℕ) (room : List ℕ) → room_fits room ≡ true → seat_for call ≡ some k
+  part_left : (call : Call) (k : ℕ) (room : List ℕ) → room_fits room ≡ true → seat_for call ≡ Some k
       → seat_of (call_room dir call room) k ≡ leaves dir call (seat_of room k)
   part_left call k room fit e =
       let own = own_room dir room fit call k e in
@@ -64,14 +64,14 @@ module _ (dir : List Participant) where
       ∙ seat-got room k (leaves dir call (seat_of room k)) (room-long room fit) own.0 (fit-long (leaves dir call (seat_of room k)) left)
 
   -- what a call makes of a part, and what it answers there
-  own_is : (call : Call) (k : ℕ) (part : List ℕ) → seat_fits part ≡ true → seat_for call ≡ some k → (centre dir).own call part ≡ leaves dir call part
+  own_is : (call : Call) (k : ℕ) (part : List ℕ) → seat_fits part ≡ true → seat_for call ≡ Some k → (centre dir).own call part ≡ leaves dir call part
   own_is call k part fit e =
       let h : k < seats = within call k e in
       ap (λ (o : Option ℕ). part_in dir o (call_room dir call (alone dir o part))) e
       ∙ part_left call k (with_seat new_room k part) (alone-fit k part h fit) e
       ∙ ap (leaves dir call) (alone-seat k part h fit)
 
-  answered-is : (call : Call) (k : ℕ) (part : List ℕ) → seat_fits part ≡ true → seat_for call ≡ some k
+  answered-is : (call : Call) (k : ℕ) (part : List ℕ) → seat_fits part ≡ true → seat_for call ≡ Some k
       → (centre dir).answered call part ≡ (tells dir call part, writes dir call part)
   answered-is call k part fit e =
       let h : k < seats = within call k e in
@@ -80,7 +80,7 @@ module _ (dir : List Participant) where
       ∙ ap (λ (s : List ℕ). (tells dir call s, writes dir call s)) (alone-seat k part h fit)
 
   -- so what it did there is told by the part
-  deed-is : (call : Call) (k : ℕ) (part : List ℕ) (d : Deed) → seat_fits part ≡ true → seat_for call ≡ some k
+  deed-is : (call : Call) (k : ℕ) (part : List ℕ) (d : Deed) → seat_fits part ≡ true → seat_for call ≡ Some k
       → deed_of call ((centre dir).answered call part) ≡ d → deed_of call (tells dir call part, writes dir call part) ≡ d
   deed-is call k part d fit e was = sym (ap (deed_of call) (answered-is call k part fit e)) ∙ was
 
@@ -89,25 +89,25 @@ module _ (dir : List Participant) where
   keeps call room fit = go (seat_for call) refl
     where
       go : (o : Option ℕ) → seat_for call ≡ o → room_fits (call_room dir call room) ≡ true
-      go none e = ap room_fits (none-room dir room fit call e) ∙ fit
-      go (some k) e =
+      go None e = ap room_fits (none-room dir room fit call e) ∙ fit
+      go (Some k) e =
           let own = own_room dir room fit call k e in
           ap room_fits own.1
           ∙ room-keeps room (leaves dir call (seat_of room k)) fit k own.0 (leaves-fit dir (seat_of room k) (room-seat room fit k own.0) call)
 
   -- and the parts of the other seats
-  others : (call : Call) (k : ℕ) (room : List ℕ) → room_fits room ≡ true → (seat_for call ≡ some k → ⊥)
+  others : (call : Call) (k : ℕ) (room : List ℕ) → room_fits room ≡ true → (seat_for call ≡ Some k → ⊥)
       → seat_of (call_room dir call room) k ≡ seat_of room k
   others call k room fit not-k = go (seat_for call) refl
     where
       go : (o : Option ℕ) → seat_for call ≡ o → seat_of (call_room dir call room) k ≡ seat_of room k
-      go none e = ap (λ (r : List ℕ). seat_of r k) (none-room dir room fit call e)
-      go (some j) e =
+      go None e = ap (λ (r : List ℕ). seat_of r k) (none-room dir room fit call e)
+      go (Some j) e =
           let own = own_room dir room fit call j e in
           let left : List ℕ = leaves dir call (seat_of room j) in
           let fits : seat_fits left ≡ true = leaves-fit dir (seat_of room j) (room-seat room fit j own.0) call in
           ap (λ (r : List ℕ). seat_of r k) own.1
-          ∙ seat-apart room j k left (room-long room fit) own.0 (fit-long left fits) (λ (same : j ≡ k). not-k (e ∙ ap {B = Option ℕ} some same))
+          ∙ seat-apart room j k left (room-long room fit) own.0 (fit-long left fits) (λ (same : j ≡ k). not-k (e ∙ ap {B = Option ℕ} Some same))
 
   -- a seat of a new room
   new-part : (k : ℕ) → k < seats → seat_fits (seat_of new_room k) ≡ true
@@ -115,28 +115,28 @@ module _ (dir : List Participant) where
 
   -- a part on its own
   module _ (k : ℕ) (part : List ℕ) (sound : k < seats → seat_fits part ≡ true) where
-    kept-sound : (call : Call) → seat_for call ≡ some k → k < seats → seat_fits ((centre dir).own call part) ≡ true
+    kept-sound : (call : Call) → seat_for call ≡ Some k → k < seats → seat_fits ((centre dir).own call part) ≡ true
     kept-sound call e h = ap seat_fits (own_is call k part (sound h) e) ∙ leaves-fit dir part (sound h) call
 
-    quiet-part : (call : Call) → seat_for call ≡ some k → deed_of call ((centre dir).answered call part) ≡ quiet → (centre dir).own call part ≡ part
+    quiet-part : (call : Call) → seat_for call ≡ Some k → deed_of call ((centre dir).answered call part) ≡ quiet → (centre dir).own call part ≡ part
     quiet-part call e was =
         let fit : seat_fits part ≡ true = sound (within call k e) in
         own_is call k part fit e ∙ quiet-left dir part call (writes dir call part) (deed-is call k part quiet fit e was)
 
-    back-part : (call : Call) → seat_for call ≡ some k → deed_of call ((centre dir).answered call part) ≡ back
+    back-part : (call : Call) → seat_for call ≡ Some k → deed_of call ((centre dir).answered call part) ≡ back
         → ((centre dir).own call part ≡ backed part) × ((head_of part).steps ≡ 0 → ⊥)
     back-part call e was =
         let fit : seat_fits part ≡ true = sound (within call k e) in
         let left = back-left dir part call (writes dir call part) (deed-is call k part back fit e was) in
         (own_is call k part fit e ∙ left.0, left.1)
 
-    step_part : (call : Call) → seat_for call ≡ some k → deed_of call ((centre dir).answered call part) ≡ step
+    step_part : (call : Call) → seat_for call ≡ Some k → deed_of call ((centre dir).answered call part) ≡ step
         → backed ((centre dir).own call part) ≡ part
     step_part call e was =
         let fit : seat_fits part ≡ true = sound (within call k e) in
         ap backed (own_is call k part fit e) ∙ step_left dir part call (writes dir call part) fit (deed-is call k part step fit e was)
 
-    fresh-part : (call : Call) → seat_for call ≡ some k → deed_of call ((centre dir).answered call part) ≡ fresh
+    fresh-part : (call : Call) → seat_for call ≡ Some k → deed_of call ((centre dir).answered call part) ≡ fresh
         → (head_of ((centre dir).own call part)).steps ≡ 0
     fresh-part call e was =
         let fit : seat_fits part ≡ true = sound (within call k e) in

@@ -3,18 +3,17 @@
 -- Assumes nothing.
 use mathlib.Core.Path.{◌≡◌, refl, sym, ap, ◌∙◌}
 use mathlib.Core.Bool.{true, false, not, ◌||◌}
-use mathlib.Core.List.{List, []}
+use mathlib.Core.List.{List}
 use Prim.Native.Nat.{ℕ, zero, suc, ◌+◌, ◌<◌}
-use native.Mathlib.Omega.{arith}
-use lib.Dec.{eqb, lit<}
-use lib.ListN.{length, get_or}
+use lib.Dec.{lit<}
+use lib.ListN.{get_or}
 use borrow.Author.Tests.{eq-eqb, leb-false, not-true, not-false}
 use Rattle.shape.specs.Bits.{total}
 use Rattle.shape.proofs.Tests.{at_place}
 use Rattle.slip.specs.Meaning.{seats}
 use Rattle.directory.specs.declared.Participant.{Participant}
 use Rattle.layout.specs.declared.rows.Account.{Account}
-use Rattle.layout.specs.Seat.{accounts, seat_long, head_of, account_of, seat_of, with_seat}
+use Rattle.layout.specs.Seat.{accounts, head_of, account_of, seat_of, with_seat}
 use Rattle.layout.proofs.Rooms.{seat-got}
 use Rattle.journal.proofs.Sums.{balances_from}
 use Rattle.seat.specs.Fit.{open_seat, sums_from, sums_of, room_fits}

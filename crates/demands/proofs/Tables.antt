@@ -14,7 +14,7 @@ use Rattle.shape.proofs.Tests.{and_left, and_right}
 use Rattle.slip.specs.Meaning.{slip_long, openings, steps}
 use Rattle.slip.specs.Image.{slip_of}
 use Rattle.slip.specs.Answers.{can_write, holds_slip}
-use Rattle.message.specs.declared.Answer.{Answer}
+use Rattle.message.specs.Message.{Answer}
 use Rattle.message.specs.Received.{received_of}
 use Rattle.message.specs.Lowest.{number_of}
 use Rattle.directory.specs.declared.Participant.{Participant}

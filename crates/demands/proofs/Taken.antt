@@ -1,6 +1,7 @@
 -- A message that is heard is answered by its check alone: refused by 12 with nothing changed, or done, and then it is one step more in its seat, which
 -- the seat can take, with its slip in the buffer.
 -- Assumes nothing.
+use Rattle.std.specs.Prelude.{Ok}
 use mathlib.Core.Path.{◌≡◌, refl, sym, ap, subst, ◌∙◌}
 use mathlib.Core.Bool.{true, false, cond}
 use mathlib.Core.List.{List, [], ◌++◌}
@@ -16,7 +17,6 @@ use Rattle.slip.specs.Meaning.{seats, openings, steps, slip_long, kind_number, s
 use Rattle.slip.specs.Image.{image}
 use Rattle.slip.proofs.Exact.{image-first}
 use Rattle.message.specs.declared.Message.{Message}
-use Rattle.message.specs.declared.Answer.TheVariants.{Good}
 use Rattle.message.specs.Received.{received_of}
 use Rattle.directory.specs.declared.Participant.{Participant}
 use Rattle.directory.specs.Directory.{code_most}
@@ -58,7 +58,7 @@ unfolding is_done
 done-done = refl
 
 module _ (dir : List Participant) (ticket : Ticket) (sender today : ℕ) (sheet slip room : List ℕ)
-    (f : Facts dir ticket sender today sheet slip room) (m : Message) (good : (received_of sheet).answer ≡ Good m) where
+    (f : Facts dir ticket sender today sheet slip room) (m : Message) (good : (received_of sheet).answer ≡ Ok m) where
   abbrev pub case : Case
   case = case_of dir sender today m
 

@@ -1,5 +1,5 @@
 -- "Easy to get wrong": the three lines of document 01, each as it has to be.
-use Rattle.std.specs.Prelude.{Bool, true, false, ◌||◌, List, ◌∷◌, ◌++◌, ◌≡◌, ℕ, ◌<◌}
+use Rattle.std.specs.Prelude.{Bool, true, false, ◌||◌, List, ◌∷◌, ◌++◌, ◌≡◌, ℕ, ◌<◌, Some, None, Ok}
 use Rattle.shape.specs.Bytes.{every}
 use Rattle.shape.specs.Stored.{same_identifier, same_uetr}
 use Rattle.table.specs.declared.Kind.{Kind}
@@ -7,7 +7,6 @@ use Rattle.table.specs.declared.Kind.TheVariants.{Pacs008, Camt050, Pacs028, Pac
 use Rattle.table.specs.Checks.{order_of}
 use Rattle.slip.specs.Meaning.{steps, kind_number}
 use Rattle.message.specs.declared.Message.{Message}
-use Rattle.message.specs.declared.Answer.TheVariants.{Good}
 use Rattle.message.specs.Due.{Due}
 use Rattle.directory.specs.declared.Participant.{Participant}
 use Rattle.layout.specs.declared.rows.Account.{Account}
@@ -18,7 +17,6 @@ use Rattle.journal.specs.Working.{stepped, backed, possible}
 use Rattle.seat.specs.Fit.{seat_fits}
 use Rattle.journal.specs.Limits.{turnover_above, turnover_shut}
 use Rattle.seat.specs.Settings.{limit_number}
-use Rattle.seat.specs.declared.settings.Limit.TheVariants.{Of, None}
 use Rattle.judge.specs.declared.case.Case.{Case}
 use Rattle.judge.specs.Rows.{identifier_repeated, uetr_repeated}
 use Rattle.centre.specs.declared.Ticket.{Ticket}
@@ -41,11 +39,11 @@ pub record Handed : Type 0 where
 -- two submits under one ticket, which are the messages m and n: the first is done, however it ended, and where it left the room nothing but a check
 -- refuses the second
 pub record OneAfterOther (dir : List Participant) (ticket : Ticket) (room : List ℕ) (first second : Handed) (m n : Message) : Type 0 where
-  pub first-is : Due first.sheet (Good m)
+  pub first-is : Due first.sheet (Ok m)
   pub first_done : (answer dir ticket first.sender first.today first.sheet first.slip room).number ≡ 0
-  pub second_is : Due second.sheet (Good n)
+  pub second_is : Due second.sheet (Ok n)
   pub second-heard : Heard dir ticket second.sender second.today second.sheet second.slip
-      (room_then dir ticket first.sender first.today first.sheet first.slip room) (Good n)
+      (room_then dir ticket first.sender first.today first.sheet first.slip room) (Ok n)
 
 -- then the second fails by this check, unless one that stands before it in the order of its kind fails
 abbrev pub EndsBy : ℕ → (dir : List Participant) (ticket : Ticket) (room : List ℕ) (first second : Handed) (m n : Message) → Type 0
@@ -79,7 +77,7 @@ pub record EasilyWrong : Type 0 where
   -- a take-back restores all: money, turnover, old settings, free identifiers; the very numbers of the seat
   pub all-restored : (x : Step) (s : List ℕ) → Taken x s → backed (stepped x s) ≡ s
   -- LPO 0 is a limit, reported as 24 and never as 23; no LPO is no limit
-  pub zero-shut : (a : Account) (amount : ℕ) → a.settings.lpo ≡ limit_number (Of 0)
+  pub zero-shut : (a : Account) (amount : ℕ) → a.settings.lpo ≡ limit_number (Some 0)
       → (turnover_shut a ≡ true) × (turnover_above a amount ≡ false)
   pub none_free : (a : Account) (amount : ℕ) → a.settings.lpo ≡ limit_number None
       → (turnover_shut a ≡ false) × (turnover_above a amount ≡ false)

@@ -1,9 +1,8 @@
 -- Demand 2. A message, where nothing but a check refuses it, is carried out exactly when no check listed for its kind fails; otherwise the answer is
 -- the first failing one in that order. Money moves only then, by exactly the amount. A pacs.008 that passes waits and moves nothing; the pacs.002
 -- that answers it moves what it keeps, or rejects it. Slips written are read back the same, and no other bytes are read as a slip.
-use Rattle.std.specs.Prelude.{Bool, true, not, ◌&&◌, cond, List, [], ◌∷◌, ◌++◌, ◌≡◌, ℕ, suc, ◌≤◌, ◌<◌, eqb, length, take, drop}
+use Rattle.std.specs.Prelude.{Bool, true, not, ◌&&◌, cond, List, [], ◌∷◌, ◌++◌, ◌≡◌, ℕ, suc, ◌≤◌, ◌<◌, eqb, length, take, drop, Some, Ok}
 use Rattle.shape.specs.Bytes.{every}
-use Rattle.shape.specs.declared.value.Value.TheVariants.{Of}
 use Rattle.table.specs.declared.Kind.{Kind}
 use Rattle.table.specs.declared.Kind.TheVariants.{Pacs008, Camt050, Pacs028, Pacs002}
 use Rattle.table.specs.Checks.{order_of}
@@ -16,15 +15,13 @@ use Rattle.slip.specs.Meaning.{steps, slip_long, kind_number, status_number, mea
 use Rattle.slip.specs.Image.{are_bytes, image_in, image}
 use Rattle.slip.specs.Answers.{write_after}
 use Rattle.message.specs.declared.Message.{Message}
-use Rattle.message.specs.declared.Answer.{Answer}
-use Rattle.message.specs.declared.Answer.TheVariants.{Good}
+use Rattle.message.specs.Message.{Answer}
 use Rattle.message.specs.Due.{Due}
 use Rattle.directory.specs.declared.Participant.{Participant}
 use Rattle.layout.specs.declared.rows.Account.{Account}
 use Rattle.layout.specs.declared.rows.Step.{Step}
 use Rattle.layout.specs.Seat.{accounts, head_of, account_of, step_of, seat_of, with_seat}
 use Rattle.journal.specs.declared.results.Outcome.{Outcome}
-use Rattle.journal.specs.declared.traces.Earlier.TheVariants as earlier
 use Rattle.journal.specs.Steps.{no_settings}
 use Rattle.journal.specs.Answers.{result_now}
 use Rattle.journal.specs.Working.{debited, credited, turned}
@@ -39,6 +36,7 @@ use Rattle.centre.specs.Submit.{submit_told, submit_after, submit_slip}
 use Rattle.centre.specs.Slips.{write_told, read_told}
 use Rattle.demands.specs.Calls.{submit, under}
 use Rattle.demands.specs.Refusals.{none, table, Exactly}
+use Rattle.journal.specs.Traces.{placed}
 
 -- money that moves: the debited account, the credited one and the amount
 pub record Move : Type 0 where
@@ -184,10 +182,10 @@ module _ (dir : List Participant) (ticket : Ticket) (sender today : ℕ) (sheet 
   pub record Awaits (m : Message) : Type 0 where
     pub move : Move
     pub receiver : ℕ
-    pub debits : (movement_in (case_on m) seat).debit ≡ Of move.debit
-    pub credits : (movement_in (case_on m) seat).credit ≡ Of move.credit
-    pub amounts : m.amount ≡ Of move.amount
-    pub receives : m.instructed ≡ Of receiver
+    pub debits : (movement_in (case_on m) seat).debit ≡ Some move.debit
+    pub credits : (movement_in (case_on m) seat).credit ≡ Some move.credit
+    pub amounts : m.amount ≡ Some move.amount
+    pub receives : m.instructed ≡ Some receiver
     pub recorded : Recorded m waiting (record { move = move; receiver = receiver; answers = 0 })
     pub rests : Unmoved
 
@@ -195,9 +193,9 @@ module _ (dir : List Participant) (ticket : Ticket) (sender today : ℕ) (sheet 
   -- changed but that turnover
   pub record Transferred (m : Message) : Type 0 where
     pub move : Move
-    pub debits : (movement_in (case_on m) seat).debit ≡ Of move.debit
-    pub credits : (movement_in (case_on m) seat).credit ≡ Of move.credit
-    pub amounts : m.amount ≡ Of move.amount
+    pub debits : (movement_in (case_on m) seat).debit ≡ Some move.debit
+    pub credits : (movement_in (case_on m) seat).credit ≡ Some move.credit
+    pub amounts : m.amount ≡ Some move.amount
     pub there : move.amount ≤ (account_of seat move.debit).balance
     pub recorded : Recorded m accepted (moving move)
     pub moved : AccountsAfter move
@@ -205,7 +203,7 @@ module _ (dir : List Participant) (ticket : Ticket) (sender today : ℕ) (sheet 
   -- an accepting pacs.002 settles the transfer that waits for it: exactly the amount that this one keeps moves between the two accounts that it keeps
   pub record Settles (m : Message) : Type 0 where
     pub place : ℕ
-    pub due : due_to (case_on m) seat ≡ earlier.Of place (step_of seat place)
+    pub due : due_to (case_on m) seat ≡ Some (placed place (step_of seat place))
     pub early : place < count
     pub move : Move
     pub same : move ≡ record { debit = (step_of seat place).debit; credit = (step_of seat place).credit; amount = (step_of seat place).amount }
@@ -246,7 +244,7 @@ module _ (dir : List Participant) (ticket : Ticket) (sender today : ℕ) (sheet 
   -- where nothing but a check refuses, the sheet is a message, and it is judged so
   pub record Heeded (received : Answer) : Type 0 where
     pub message : Message
-    pub good : received ≡ Good message
+    pub good : received ≡ Ok message
     pub judged : Judged message
 
 -- a slip of a form is read from its bytes there, and from no others of their length

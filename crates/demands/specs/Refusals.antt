@@ -5,7 +5,7 @@ use Rattle.std.specs.Prelude.{Bool, true, false, not, ◌&&◌, ◌||◌, cond, 
 use Rattle.shape.specs.Bytes.{every}
 use Rattle.slip.specs.Image.{slip_of}
 use Rattle.slip.specs.Answers.{buffer_short}
-use Rattle.message.specs.declared.Answer.{Answer}
+use Rattle.message.specs.Message.{Answer}
 use Rattle.message.specs.Lowest.{number_of}
 use Rattle.message.specs.Due.{Due}
 use Rattle.directory.specs.declared.Participant.{Participant}

@@ -2,8 +2,7 @@
 -- chosen seat: strike out all calls for other seats, then each successful take-back with the step it took back and every call between them; run
 -- from a new room, the calls left give that seat the same stored numbers and each of them its same answer and slip. The striking stands in
 -- `strike`; here is the machine that it is about. Slip calls, and calls that name a seat above 11, belong to no seat.
-use Rattle.std.specs.Prelude.{cond, List, [], ℕ}
-use Rattle.std.proofs.Math.Option.{Option, none, some}
+use Rattle.std.specs.Prelude.{cond, List, [], ℕ, Option, Some, None}
 use Rattle.directory.specs.declared.Participant.{Participant}
 use Rattle.layout.specs.Seat.{seat_of, with_seat}
 use Rattle.strike.specs.Machine.{Deed, quiet, step, back, fresh, Machine}
@@ -14,13 +13,13 @@ use Rattle.demands.specs.Calls.{Act, close, set, submit, take_back, read, Call, 
 
 -- the seat that a call is for
 unfoldable pub seat_named : ℕ → Option ℕ
-seat_named seat = cond (no_seat seat) none (some seat)
+seat_named seat = cond (no_seat seat) None (Some seat)
 
 unfoldable pub seat_for : Call → Option ℕ
 seat_for (opening seat sums) = seat_named seat
 seat_for (under ticket act) = seat_named ticket.seat
-seat_for (writing slip buffer) = none
-seat_for (reading bytes) = none
+seat_for (writing slip buffer) = None
+seat_for (reading bytes) = None
 
 -- an answer with the slip buffer
 abbrev pub Answer : Type 0
@@ -49,12 +48,12 @@ module _ (dir : List Participant) where
 
   -- what a call makes of its seat's part and what it answers, in a room in which nothing else was done
   abbrev pub alone : Option ℕ → List ℕ → List ℕ
-  alone none part = new_room
-  alone (some seat) part = with_seat new_room seat part
+  alone None part = new_room
+  alone (Some seat) part = with_seat new_room seat part
 
   abbrev pub part_in : Option ℕ → List ℕ → List ℕ
-  part_in none room = []
-  part_in (some seat) room = seat_of room seat
+  part_in None room = []
+  part_in (Some seat) room = seat_of room seat
 
   abbrev pub centre : Machine
   centre = record {

@@ -1,6 +1,8 @@
 -- Of each public function: no second answer satisfies its contract.
 -- Assumes nothing.
-use Rattle.shape.proofs.Single.{Settled, by-equation}
+use mathlib.Core.List.{List}
+use Rattle.directory.specs.declared.Participant.{Participant}
+use Rattle.shape.proofs.Single.{Settled, SettledShown, by-equation}
 use Rattle.directory.proofs.fits.Kinds as fits-kinds
 use Rattle.directory.proofs.fits.Reads as fits-reads
 use Rattle.directory.proofs.is_owner.Kinds as is-owner-kinds
@@ -39,6 +41,12 @@ use Rattle.directory.proofs.find.Kinds as find-kinds
 use Rattle.directory.proofs.find.Reads as find-reads
 use Rattle.directory.proofs.find_given.Kinds as find-given-kinds
 use Rattle.directory.proofs.find_given.Reads as find-given-reads
+use Rattle.directory.proofs.no_records.Kinds as no-records-kinds
+use Rattle.directory.proofs.no_records.Reads as no-records-reads
+use Rattle.directory.proofs.Gathered.with.Kinds as with-kinds
+use Rattle.directory.proofs.Gathered.with.Reads as with-reads
+use Rattle.directory.proofs.Gathered.as_slice.Kinds as as-slice-kinds
+use Rattle.directory.proofs.Gathered.as_slice.Reads as as-slice-reads
 
 pub under-sep : Settled _ under-sep-kinds.ps under-sep-kinds.r under-sep-reads.Post
 under-sep κs a x y e f = by-equation
@@ -96,3 +104,12 @@ find κs a x y e f = by-equation
 
 pub find-given : Settled _ find-given-kinds.ps find-given-kinds.r find-given-reads.Post
 find-given κs a x y e f = by-equation
+
+pub no-records : Settled _ no-records-kinds.ps no-records-kinds.r no-records-reads.Post
+no-records κs a x y e f = by-equation
+
+pub with-one-more : Settled _ with-kinds.ps with-kinds.r with-reads.Post
+with-one-more κs a x y e f = by-equation
+
+pub as-slice : SettledShown _ as-slice-kinds.ps as-slice-kinds.r as-slice-reads.Post (List Participant) (λ κs x. x.now)
+as-slice κs a x y e f = by-equation

@@ -1,12 +1,8 @@
 -- The records of a directory gathered by value: the first sixteen, in places that are otherwise empty, and how many there are in all.
-use Rattle.std.specs.Prelude.{Bool, false, ◌&&◌, cond, List, [], ◌∷◌, ◌++◌, ℕ, suc, ◌-◌, leb, ltb, eqb, set, replicate, take}
+use Rattle.std.specs.Prelude.{Bool, false, ◌&&◌, cond, List, [], ◌∷◌, ◌++◌, suc, ◌-◌, leb, ltb, set, replicate, take}
 use Rattle.shape.specs.Bytes.{every}
-use Rattle.shape.specs.declared.value.Value.{Value}
-use Rattle.shape.specs.declared.value.Value.TheVariants.{Of, None}
 use Rattle.directory.specs.declared.Kind.TheVariants.{Owner}
 use Rattle.directory.specs.declared.Participant.{Participant}
-use Rattle.directory.specs.declared.Found.{Found}
-use Rattle.directory.specs.declared.Found.TheVariants.{At, Missing}
 use Rattle.directory.specs.declared.Gathered.{Gathered}
 use Rattle.directory.specs.Directory.{records_most, code_most, names, ascending}
 
@@ -42,18 +38,3 @@ fit_gathered g =
     && every (λ (p : Participant). leb p.code code_most) (records_in g)
     && ascending (records_in g)
     && every (λ (p : Participant). names (records_in g) p.kind) (records_in g)
-
--- what is found of a code with one record more
-unfoldable pub looked : Found → ℕ → Participant → ℕ → Found
-looked (At k q) place p code = At k q
-looked Missing place p code = cond (eqb p.code code) (At place p) Missing
-
--- a code to look for, 0 where none is given, and what was found, where one was given. That both together are the search for a code that may not be
--- given is proved in `proofs/Given.antt`
-unfoldable pub code_in : Value → ℕ
-code_in (Of code) = code
-code_in None = 0
-
-unfoldable pub if_given : Value → Found → Found
-if_given (Of code) f = f
-if_given None f = Missing

@@ -8,134 +8,90 @@
 //     poke PLACE NUMBER                                     changes a number of the room
 //     rows SEAT SENDER DATE SHEET                           prints every check that the message fails, in the order of its kind
 //     dump SEAT                                             prints all that the seat holds
-// Behind a call stand the answer's number, its detail and its values, then the slip's buffer. Other lines are only printed.
+// After a call stand the answer's number, its detail and its values, then the slip's buffer. Other lines are only printed.
 // The script stands in `stdin`, what it must give in `stdout`; both are written by `tests/drill.py`.
 #![tactic(auto)]
 
 mod calls;
+mod line;
 mod records;
 mod rows;
 mod show;
-mod words;
 
-ghost use Rattle.std.specs.Prelude.{◌≡◌, length};
-
-use directory::Gathered;
-use input::read_full;
+use directory::{Gathered, no_records};
+use input::{buffer, read_text};
 use layout::ROOM_LONG;
-use records::{directory_behind, no_records};
+use line::{Line, line_of};
+use records::directory_after;
 use show::{dump, seat_part};
 use std::io;
-use std::io::{BufWriter, Read, Write};
-use words::{Numbers, line_end, numbers_in, part, word_end, words_end};
+use std::io::{BufWriter, Write};
+use text::lines;
 
 // How many bytes of a script are read, and how many numbers a room can be lent with: more than a room has, so that one can be too long.
 const SCRIPT_MOST: usize = 524288;
 
 const ROOM_MOST: usize = ROOM_LONG + 16;
 
-// What is printed of a line: all but a sheet.
-fn head(line: &[u8]) -> &[u8] {
-    let word = part(line, 0, word_end(line, 0));
-    if word == b"submit".as_slice() {
-        return part(line, 0, words_end(line, 5));
-    }
-    if word == b"rows".as_slice() {
-        return part(line, 0, words_end(line, 3));
-    }
-    line
-}
-
-// The length of the room behind a line.
-fn length_behind(long: usize, word: &[u8], n: Numbers) -> usize {
-    let values = n.values;
-    if word != b"lay".as_slice() {
+// The length of the room after a line.
+fn length_after(long: usize, line: &Line) -> usize {
+    if !line.is(b"lay") {
         return long;
     }
-    if ROOM_MOST < values[0] as usize {
-        return ROOM_MOST;
-    }
-    values[0] as usize
+    ROOM_MOST.min(line.values[0] as usize)
 }
 
-fn poke(word: &[u8], numbers: &mut [u64], n: Numbers) {
-    let values = n.values;
-    if word != b"poke".as_slice() {
-        return;
-    }
-    if values[0] < numbers.len() as u64 {
-        numbers[values[0] as usize] = values[1];
+// Changes a number of the room, where it has that place.
+fn poke(numbers: &mut [u64], line: &Line) {
+    let [place, given, ..] = line.values;
+    if let Some(number) = numbers.get_mut(place as usize) {
+        *number = given;
     }
 }
 
-fn dump_seat<W: Write>(out: &mut W, word: &[u8], numbers: &[u64], n: Numbers) -> io::Result<()> {
-    let values = n.values;
-    if word != b"dump".as_slice() {
-        return Ok(());
-    }
-    dump(out, seat_part(numbers, values[0]))
-}
-
+// A line with its answer, in a room of which so many numbers are lent.
 fn answer<W: Write>(
     out: &mut W,
-    line: &[u8],
     numbers: &mut [u64],
     long: usize,
     g: Gathered,
-    n: Numbers,
+    line: &Line,
 ) -> io::Result<()> {
-    let word = part(line, 0, word_end(line, 0));
     if numbers.len() < long {
         return Ok(());
     }
-    out.write_all(head(line))?;
-    poke(word, numbers, n);
-    calls::on_room(out, word, line, &mut numbers[..long], g, n)?;
-    calls::on_slips(out, word, line, n)?;
-    rows::on_rows(out, word, line, numbers, g, n)?;
+    out.write_all(line.head)?;
+    match line.word {
+        b"poke" => poke(numbers, line),
+        b"rows" => rows::tell_rows(out, numbers, g, line)?,
+        b"write" => calls::write(out, line)?,
+        b"slip" => calls::slip(out, line)?,
+        _ => calls::on_room(out, &mut numbers[..long], g, line)?,
+    }
     out.write_all(b"\n")?;
-    dump_seat(out, word, numbers, n)
-}
-
-fn play<W: Write>(out: &mut W, s: &[u8], numbers: &mut [u64]) -> io::Result<()> {
-    let mut g = no_records();
-    let mut long = 0;
-    let mut from = 0;
-    while from < s.len() {
-        let to = line_end(s, from);
-        let line = part(s, from, to);
-        let word = part(line, 0, word_end(line, 0));
-        let n = numbers_in(head(line));
-        g = directory_behind(g, word, n);
-        long = length_behind(long, word, n);
-        answer(out, line, numbers, long, g, n)?;
-        from = to + 1;
+    if line.is(b"dump") {
+        dump(out, seat_part(numbers, line.values[0]))?;
     }
     Ok(())
 }
 
-// Room for a script. It stands apart so that a proof sees its length alone, and not each of its bytes.
-fn no_script() -> [u8; SCRIPT_MOST]
-    ensures { length result ≡ 524288 }
-{
-    [0; SCRIPT_MOST]
-}
-
-// Plays the script that stands on the input.
-fn run<R: Read, W: Write>(
-    input: &mut R,
-    out: &mut W,
-    buffer: &mut [u8],
-    room: &mut [u64],
-) -> io::Result<()> {
-    let n = read_full(input, buffer)?;
-    play(out, &buffer[..n], room)
+fn play<W: Write>(out: &mut W, script: &[u8], numbers: &mut [u64]) -> io::Result<()> {
+    let mut g = no_records();
+    let mut long = 0;
+    for text in lines(script) {
+        let line = line_of(text);
+        g = directory_after(g, &line);
+        long = length_after(long, &line);
+        answer(out, numbers, long, g, &line)?;
+    }
+    Ok(())
 }
 
 fn main(rt: HostRuntime) -> io::Result<()> {
-    let mut buffer = no_script();
+    let mut input = buffer::<SCRIPT_MOST>();
     let mut room = [0u64; ROOM_MOST];
     let mut out = BufWriter::new(rt.alloc(), rt.stdout())?;
-    run(&mut rt.stdin(), &mut out, &mut buffer, &mut room)?;
+    let script = read_text(&mut rt.stdin(), &mut input)?;
+    play(&mut out, script, &mut room)?;
     out.flush()
 }

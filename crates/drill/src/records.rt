@@ -1,23 +1,8 @@
 // The directory of a script: `forget` empties it, `record CODE INSTANT KIND NAMED` adds a record at its end.
-use crate::words::Numbers;
-use directory::{Gathered, Kind, Participant, RECORDS_MOST};
+use crate::line::Line;
+use directory::{Gathered, Kind, Participant, RECORDS_MOST, no_records};
 
-fn nobody() -> Participant {
-    Participant {
-        code: 0,
-        instant: false,
-        kind: Kind::Owner,
-    }
-}
-
-pub fn no_records() -> Gathered {
-    Gathered {
-        count: 0,
-        records: [nobody(); RECORDS_MOST],
-    }
-}
-
-// A kind by its number: 0 owner, 1 direct branch, 2 indirect branch, 3 provider.
+// A kind by its number, as the lines of a script give it: 0 owner, 1 direct branch, 2 indirect branch, 3 provider.
 fn kind_of(number: u64, named: u64) -> Kind {
     match number {
         1 => Kind::Direct(named),
@@ -27,36 +12,25 @@ fn kind_of(number: u64, named: u64) -> Kind {
     }
 }
 
-fn record_in(n: Numbers) -> Participant {
-    let values = n.values;
+fn record_in(line: &Line) -> Participant {
+    let [code, instant, kind, named, ..] = line.values;
     Participant {
-        code: values[0],
-        instant: values[1] == 1,
-        kind: kind_of(values[2], values[3]),
+        code,
+        instant: instant == 1,
+        kind: kind_of(kind, named),
     }
 }
 
-// One record more: in the next place while there is one. A 17th is counted, so that the directory is seen to be too long.
-fn with_record(g: Gathered, p: Participant) -> Gathered {
-    let at = g.count;
-    let mut next = g;
-    if RECORDS_MOST < at {
-        return next;
+// The directory after a line. A 17th record is counted, so that it is seen to be too long; after that it stays as it is.
+pub fn directory_after(g: Gathered, line: &Line) -> Gathered {
+    match line.word {
+        b"forget" => no_records(),
+        b"record" => {
+            if RECORDS_MOST < g.count {
+                return g;
+            }
+            g.with(record_in(line))
+        }
+        _ => g,
     }
-    if at < RECORDS_MOST {
-        next.records[at] = p;
-    }
-    next.count = at + 1;
-    next
-}
-
-// The directory behind a line.
-pub fn directory_behind(g: Gathered, word: &[u8], n: Numbers) -> Gathered {
-    if word == b"forget".as_slice() {
-        return no_records();
-    }
-    if word == b"record".as_slice() {
-        return with_record(g, record_in(n));
-    }
-    g
 }

@@ -3,24 +3,22 @@ ghost use Rattle.std.specs.Prelude.{◌≡◌, ◌≤◌, length};
 ghost use Rattle.slip.specs.Meaning.{steps};
 ghost use Rattle.layout.specs.Seat.{seat_long, head_of};
 
+use crate::line::{Line, ROWS_WORDS};
 use crate::show::{put_number, seat_part};
-use crate::words::{Numbers, part, words_end};
 use directory::{Gathered, fits};
 use judge::{Case, case_of, fails};
 use layout::{SEAT_LONG, head};
-use message::{Answer, receive};
+use message::receive;
 use slip::STEPS;
 use std::io;
 use std::io::Write;
-use table::{order_at, order_length};
+use table::order_of;
 
 fn put_failing<W: Write>(out: &mut W, c: Case, s: &[u64]) -> io::Result<()>
     requires { (length s.now ≡ seat_long) × ((head_of s.now).steps ≤ steps) }
 {
-    let m = c.message;
-    let kind = m.kind;
-    for i in 0..order_length(kind) {
-        let number = order_at(kind, i);
+    for check in order_of(c.message.kind) {
+        let number = *check;
         if fails(c, s, number) {
             put_number(out, number)?;
         }
@@ -29,11 +27,7 @@ fn put_failing<W: Write>(out: &mut W, c: Case, s: &[u64]) -> io::Result<()>
 }
 
 fn put_rows<W: Write>(out: &mut W, s: &[u64], c: Case) -> io::Result<()> {
-    if s.len() != SEAT_LONG {
-        return Ok(());
-    }
-    let h = head(s);
-    if STEPS < h.steps {
+    if s.len() != SEAT_LONG || STEPS < head(s).steps {
         return Ok(());
     }
     out.write_all(b" ->")?;
@@ -41,27 +35,13 @@ fn put_rows<W: Write>(out: &mut W, s: &[u64], c: Case) -> io::Result<()> {
 }
 
 // The failing checks of the sheet that ends a line, in the seat that it names.
-pub fn on_rows<W: Write>(
-    out: &mut W,
-    word: &[u8],
-    line: &[u8],
-    room: &[u64],
-    g: Gathered,
-    n: Numbers,
-) -> io::Result<()> {
-    let values = n.values;
-    if word != b"rows".as_slice() {
-        return Ok(());
-    }
+pub fn tell_rows<W: Write>(out: &mut W, room: &[u64], g: Gathered, line: &Line) -> io::Result<()> {
+    let [seat, sender, date, ..] = line.values;
     if !fits(g) {
         return Ok(());
     }
-    let s = seat_part(room, values[0]);
-    let received = receive(part(line, words_end(line, 3) + 1, line.len()));
-    let answer = received.answer;
-    match answer {
-        Answer::Good(m) => put_rows(out, s, case_of(g, values[1], values[2], m)),
-        Answer::IllFormed(_place) => Ok(()),
-        Answer::BadField(_field) => Ok(()),
+    match receive(line.after(ROWS_WORDS)).answer {
+        Ok(m) => put_rows(out, seat_part(room, seat), case_of(g, sender, date, m)),
+        Err(_refusal) => Ok(()),
     }
 }

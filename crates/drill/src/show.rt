@@ -1,5 +1,8 @@
 // What is printed: the answer of a call, and what a seat holds.
-use centre::Answer;
+ghost use Rattle.std.specs.Prelude.{◌≡◌, length};
+ghost use Rattle.layout.specs.Seat.{seat_long};
+
+use centre::{Done, Refusal};
 use layout::rows::{Account, Settings, Step};
 use layout::{ACCOUNTS, ROOM_LONG, SEAT_LONG, account, head, seat_in, step};
 use shape::stored::Identifier;
@@ -7,39 +10,15 @@ use slip::{SEATS, STEPS, Slip};
 use std::io;
 use std::io::Write;
 
+// How many values an answer has: none, that of an opening, those of a slip. An account has as many as its row.
+pub const NO_VALUES: usize = 0;
+
+pub const OPENED_VALUES: usize = 1;
+
+pub const SLIP_VALUES: usize = 6;
+
 pub fn put_number<W: Write>(out: &mut W, n: u64) -> io::Result<()> {
     write!(out, " {n}")
-}
-
-// The number of an answer in the table of refusals.
-fn number_of(answer: Answer) -> u64 {
-    match answer {
-        Answer::Done => 0,
-        Answer::Opened(_opening) => 0,
-        Answer::Holds(_account) => 0,
-        Answer::Says(_slip) => 0,
-        Answer::RoomUnfit => 1,
-        Answer::DirectoryUnfit => 2,
-        Answer::NoTicket => 3,
-        Answer::AlreadyOpen => 4,
-        Answer::NoOpeningLeft => 5,
-        Answer::BadNumber => 6,
-        Answer::IllFormed(_place) => 7,
-        Answer::BadField(_field) => 8,
-        Answer::JournalFull => 9,
-        Answer::NothingToTakeBack => 10,
-        Answer::NoSlip => 11,
-        Answer::NotTaken(_check) => 12,
-    }
-}
-
-fn detail_of(answer: Answer) -> u64 {
-    match answer {
-        Answer::IllFormed(place) => place as u64,
-        Answer::BadField(field) => field as u64,
-        Answer::NotTaken(check) => check,
-        _ => 0,
-    }
 }
 
 fn put_zeros<W: Write>(out: &mut W, count: usize) -> io::Result<()> {
@@ -50,37 +29,30 @@ fn put_zeros<W: Write>(out: &mut W, count: usize) -> io::Result<()> {
 }
 
 fn put_settings<W: Write>(out: &mut W, s: Settings) -> io::Result<()> {
-    put_number(out, s.out)?;
-    put_number(out, s.into)?;
-    put_number(out, s.ltk)?;
-    put_number(out, s.lpo)
+    write!(out, " {} {} {} {}", s.out, s.into, s.ltk, s.lpo)
 }
 
 fn put_account<W: Write>(out: &mut W, a: Account) -> io::Result<()> {
-    put_number(out, a.opening)?;
-    put_number(out, a.balance)?;
-    put_number(out, a.turnover)?;
+    write!(out, " {} {} {}", a.opening, a.balance, a.turnover)?;
     put_settings(out, a.settings)
 }
 
 fn put_slip<W: Write>(out: &mut W, s: Slip) -> io::Result<()> {
-    put_number(out, s.kind)?;
-    put_number(out, s.status)?;
-    put_number(out, s.check)?;
-    put_number(out, s.seat)?;
-    put_number(out, s.opening)?;
-    put_number(out, s.step)
+    write!(out, " {} {} {}", s.kind, s.status, s.check)?;
+    write!(out, " {} {} {}", s.seat, s.opening, s.step)
 }
 
-// An answer: its number, its detail and its values, so many zeros where it has none.
-pub fn tell<W: Write>(out: &mut W, answer: Answer, values: usize) -> io::Result<()> {
-    out.write_all(b" ->")?;
-    put_number(out, number_of(answer))?;
-    put_number(out, detail_of(answer))?;
+// An answer: its number in the table of refusals, its detail and its values, so many zeros where it has none.
+pub fn tell<W: Write>(out: &mut W, answer: Result<Done, Refusal>, values: usize) -> io::Result<()> {
+    let (number, detail) = match answer {
+        Ok(_done) => (0, 0),
+        Err(refusal) => (refusal.number(), refusal.detail()),
+    };
+    write!(out, " -> {number} {detail}")?;
     match answer {
-        Answer::Opened(opening) => put_number(out, opening),
-        Answer::Holds(account) => put_account(out, account),
-        Answer::Says(slip) => put_slip(out, slip),
+        Ok(Done::Opened(opening)) => put_number(out, opening),
+        Ok(Done::Holds(account)) => put_account(out, account),
+        Ok(Done::Says(slip)) => put_slip(out, slip),
         _ => put_zeros(out, values),
     }
 }
@@ -94,31 +66,32 @@ pub fn put_buffer<W: Write>(out: &mut W, bytes: &[u8]) -> io::Result<()> {
     Ok(())
 }
 
-fn is_zero(a: Account) -> bool {
-    let s = a.settings;
-    (a.opening == 0)
-        & (a.balance == 0)
-        & (a.turnover == 0)
-        & (s.out == 0)
-        & (s.into == 0)
-        & (s.ltk == 0)
-        & (s.lpo == 0)
-}
+// An account that was never used.
+const UNUSED: Account = Account {
+    opening: 0,
+    balance: 0,
+    turnover: 0,
+    settings: Settings {
+        out: 0,
+        into: 0,
+        ltk: 0,
+        lpo: 0,
+    },
+};
 
 fn put_account_row<W: Write>(out: &mut W, i: usize, a: Account) -> io::Result<()> {
-    if is_zero(a) {
+    if a == UNUSED {
         return Ok(());
     }
-    out.write_all(b"account")?;
-    put_number(out, i as u64)?;
+    write!(out, "account {i}")?;
     put_account(out, a)?;
     out.write_all(b"\n")
 }
 
-fn put_accounts<W: Write>(out: &mut W, s: &[u64]) -> io::Result<()> {
-    if s.len() != SEAT_LONG {
-        return Ok(());
-    }
+// Counted, since an account is read by its number.
+fn put_accounts<W: Write>(out: &mut W, s: &[u64]) -> io::Result<()>
+    requires { length s.now ≡ seat_long }
+{
     for i in 0..ACCOUNTS {
         put_account_row(out, i, account(s, i))?;
     }
@@ -126,50 +99,33 @@ fn put_accounts<W: Write>(out: &mut W, s: &[u64]) -> io::Result<()> {
 }
 
 fn put_identifier<W: Write>(out: &mut W, x: Identifier) -> io::Result<()> {
-    put_number(out, x.first)?;
-    put_number(out, x.second)?;
-    put_number(out, x.third)?;
-    put_number(out, x.fourth)?;
-    put_number(out, x.fifth)
+    write!(out, " {} {} {}", x.first, x.second, x.third)?;
+    write!(out, " {} {}", x.fourth, x.fifth)
 }
 
 // A step's numbers in the order of their places.
 fn put_step<W: Write>(out: &mut W, x: Step) -> io::Result<()> {
-    put_number(out, x.kind)?;
-    put_number(out, x.status)?;
-    put_number(out, x.check)?;
-    put_number(out, x.sender)?;
+    write!(out, " {} {} {} {}", x.kind, x.status, x.check, x.sender)?;
     put_identifier(out, x.id)?;
-    put_number(out, x.uetr.high)?;
-    put_number(out, x.uetr.low)?;
-    put_number(out, x.created)?;
+    write!(out, " {} {} {}", x.uetr.high, x.uetr.low, x.created)?;
     put_identifier(out, x.reference)?;
-    put_number(out, x.debit)?;
-    put_number(out, x.credit)?;
-    put_number(out, x.amount)?;
-    put_number(out, x.account)?;
+    write!(out, " {} {} {} {}", x.debit, x.credit, x.amount, x.account)?;
     put_settings(out, x.old)?;
     put_settings(out, x.given)?;
-    put_number(out, x.receiver)?;
-    put_number(out, x.answers)
+    write!(out, " {} {}", x.receiver, x.answers)
 }
 
 fn put_step_row<W: Write>(out: &mut W, number: u64, x: Step) -> io::Result<()> {
-    out.write_all(b"step")?;
-    put_number(out, number)?;
+    write!(out, "step {number}")?;
     put_step(out, x)?;
     out.write_all(b"\n")
 }
 
-// The first steps of a seat, counted from 1.
-fn put_steps<W: Write>(out: &mut W, s: &[u64], count: u64) -> io::Result<()> {
-    if s.len() != SEAT_LONG {
-        return Ok(());
-    }
-    for k in 0..STEPS {
-        if count <= k {
-            break;
-        }
+// The first steps of a seat, counted from 1, since a step is read by its number.
+fn put_steps<W: Write>(out: &mut W, s: &[u64], count: u64) -> io::Result<()>
+    requires { length s.now ≡ seat_long }
+{
+    for k in 0..count.min(STEPS) {
         put_step_row(out, k + 1, step(s, k as usize))?;
     }
     Ok(())
@@ -177,11 +133,8 @@ fn put_steps<W: Write>(out: &mut W, s: &[u64], count: u64) -> io::Result<()> {
 
 // The part of a room's numbers that a seat is, empty where there is none.
 pub fn seat_part(numbers: &[u64], seat: u64) -> &[u64] {
-    if SEATS <= seat {
-        return &numbers[..0];
-    }
-    if numbers.len() < ROOM_LONG {
-        return &numbers[..0];
+    if SEATS <= seat || numbers.len() < ROOM_LONG {
+        return &[];
     }
     seat_in(&numbers[..ROOM_LONG], seat as usize)
 }
@@ -192,11 +145,7 @@ pub fn dump<W: Write>(out: &mut W, s: &[u64]) -> io::Result<()> {
         return Ok(());
     }
     let h = head(s);
-    out.write_all(b"head")?;
-    put_number(out, h.opening)?;
-    put_number(out, h.opened)?;
-    put_number(out, h.steps)?;
-    out.write_all(b"\n")?;
+    writeln!(out, "head {} {} {}", h.opening, h.opened, h.steps)?;
     put_accounts(out, s)?;
     put_steps(out, s, h.steps)
 }

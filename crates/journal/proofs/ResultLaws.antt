@@ -7,7 +7,7 @@ use mathlib.Core.List.{List, ◌∷◌}
 use Prim.Native.Nat.{ℕ}
 use lib.Dec.{eqb}
 use lib.ListN.{drop}
-use borrow.Author.Tests.{eqb-true, eq-eqb, ne_eqb}
+use borrow.Author.Tests.{eqb-true, ne_eqb}
 use Rattle.shape.proofs.Tests.{and_left, and_right, or_cases}
 use Rattle.table.specs.declared.Kind.{Kind}
 use Rattle.table.specs.declared.Kind.TheVariants.{Pacs008, Camt050, Pacs028, Pacs002}
@@ -41,26 +41,6 @@ fails-in-order Pacs002 k = but-for-two k (drop 2 (order_of Pacs002)) refl refl
 first_of : (t : Bool) → (t || false) ≡ t
 first_of true = refl
 first_of false = refl
-
--- each end by its status: a good one is no rejection
-good-end : (good : Status) (failing : ℕ → Bool) (status check : ℕ) → eqb (status_number good) 2 ≡ false → status ≡ status_number good
-    → ended good failing status check ≡ eqb check 0
-unfolding status_number
-good-end good failing status check other e =
-    subst (λ (k : ℕ). ended good failing k check ≡ eqb check 0) (sym e)
-    (rw (eq-eqb (status_number good) (status_number good) refl, other) (first_of (eqb check 0)))
-
-pub ends-carried-out : (kind : Kind) (status check : ℕ) → status ≡ 1 → ends_as kind status check ≡ eqb check 0
-unfolding ends_as status_number
-ends-carried-out kind status check = good-end Accc (fails_by kind) status check refl
-
-pub sent-waits : (status check : ℕ) → status ≡ 3 → sent_as status check ≡ eqb check 0
-unfolding sent_as status_number
-sent-waits status check = good-end Waits (fails_by Pacs008) status check refl
-
-pub told-settled : (status check : ℕ) → status ≡ 1 → told_as status check ≡ eqb check 0
-unfolding told_as status_number
-told-settled status check = good-end Accc (λ (k : ℕ). fails_by Pacs008 k || is_in k rejecting) status check refl
 
 -- what a row may hold, by its kind: one line of four
 first-of-four : (t : Bool) → (t || false || false || false) ≡ t
@@ -175,3 +155,7 @@ result-said kind status check e =
     (of-kind Said kind 2 (ends_as Camt050 status check) (moved-said status check)))
     (of-kind Said kind 3 asks (asked-said status check)))
     (of-kind Said kind 4 (ends_as Pacs002 status check) (answer-said status check))
+
+pub ruleset checks_failed = fails-in-order
+
+pub ruleset kinds_fit = (sent-fits, moved-fits, answer-fits, pending-fits, told-fits)

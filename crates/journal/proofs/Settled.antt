@@ -6,6 +6,8 @@ use Prim.Native.Nat.{ℕ}
 use Rattle.shape.proofs.Single.{Settled, SettledWith, by-equation}
 use Rattle.journal.proofs.steps.no_settings.Kinds as no-settings-kinds
 use Rattle.journal.proofs.steps.no_settings.Reads as no-settings-reads
+use Rattle.journal.proofs.steps.no_step.Kinds as no-step-kinds
+use Rattle.journal.proofs.steps.no_step.Reads as no-step-reads
 use Rattle.journal.proofs.steps.no_identifier.Kinds as no-identifier-kinds
 use Rattle.journal.proofs.steps.no_identifier.Reads as no-identifier-reads
 use Rattle.journal.proofs.steps.settings_fit.Kinds as settings-fit-kinds
@@ -39,6 +41,9 @@ use Rattle.journal.proofs.answers.result_now.Reads as result-now-reads
 
 pub no-settings : Settled _ no-settings-kinds.ps no-settings-kinds.r no-settings-reads.Post
 no-settings κs a x y e f = by-equation
+
+pub no-step : Settled _ no-step-kinds.ps no-step-kinds.r no-step-reads.Post
+no-step κs a x y e f = by-equation
 
 pub no-identifier : Settled _ no-identifier-kinds.ps no-identifier-kinds.r no-identifier-reads.Post
 no-identifier κs a x y e f = by-equation

@@ -3,7 +3,7 @@
 use mathlib.Core.Path.{◌≡◌, refl, sym, ap, subst, ◌∙◌}
 use mathlib.Core.Bool.{Bool, true, false, ◌&&◌, ◌||◌, cond}
 use mathlib.Core.List.{List}
-use Prim.Native.Nat.{ℕ, ◌+◌, ◌≤◌, ◌<◌}
+use Prim.Native.Nat.{ℕ, ◌-◌, ◌≤◌, ◌<◌}
 use lib.Dec.{leb, ltb, eqb}
 use native.Mathlib.Omega.{arith}
 use lib.ListN.{length, take, drop, length-drop}
@@ -43,35 +43,24 @@ use Rattle.journal.specs.Steps.{
   no_step,
 }
 
--- the text that is handed on: at most 35 of its bytes are the identifier's, they stand in front, and are as many as it says
+-- the text that is handed on: at most 35 of its bytes are the identifier's, and they stand in front
 module _ (t : Text) (x : Identifier) (e : t ≡ stored_text x) where
   pub text-most : t.length ≤ identifier_most
   unfolding stored_text
   text-most = subst (λ (u : Text). u.length ≤ identifier_most) (sym e) (text-short x)
 
-  pub text-fits : t.length ≤ length t.bytes
-  unfolding stored_text all_bytes
-  text-fits = subst (λ (u : Text). u.length ≤ length u.bytes) (sym e) (text-short x)
-
   pub text-part : take t.length t.bytes ≡ identifier_text x
   unfolding stored_text
   text-part = subst (λ (u : Text). take u.length u.bytes ≡ identifier_text x) (sym e) (text-front x)
 
-  pub text-long : t.length ≡ length (take t.length t.bytes)
-  unfolding stored_text
-  text-long = ap (λ (u : Text). u.length) e ∙ ap length (sym text-part)
-
-  pub text-whole : length t.bytes ≡ identifier_most
-  unfolding stored_text all_bytes
-  text-whole = ap (λ (u : Text). length u.bytes) e
-
   -- what stands behind it
-  pub text-behind : (m : ℕ) → identifier_most ≤ t.length + m
-      → (f : ℕ → Bool) → every f (take m (drop t.length t.bytes)) ≡ true → every f (drop (length (identifier_text x)) (all_bytes x)) ≡ true
+  pub text-behind : (f : ℕ → Bool) → every f (take (length t.bytes - t.length) (drop t.length t.bytes)) ≡ true
+      → every f (drop (length (identifier_text x)) (all_bytes x)) ≡ true
   unfolding stored_text
-  text-behind m h f z =
-      let short : length (drop t.length t.bytes) ≤ m = rw (length-drop t.length t.bytes) (omega (arith, text-whole)) in
-      subst (λ (u : Text). every f (drop u.length u.bytes) ≡ true) e (ap (every f) (sym (take_all m (drop t.length t.bytes) short)) ∙ z)
+  text-behind f z =
+      let rest = length t.bytes - t.length in
+      let short : length (drop t.length t.bytes) ≤ rest = rw (length-drop t.length t.bytes) (omega arith) in
+      subst (λ (u : Text). every f (drop u.length u.bytes) ≡ true) e (ap (every f) (sym (take_all rest (drop t.length t.bytes) short)) ∙ z)
 
 -- what an identifier is stored as fits
 pub stored-fits : (s : List ℕ) → is_identifier s ≡ true → is_stored (identifier_of s) ≡ true

@@ -1,5 +1,6 @@
 -- What has become of a pacs.008 in a journal whose steps fit: once it waits no more it can be told by a pacs.028, and it is never PDNG.
 -- Assumes nothing.
+use Rattle.std.specs.Prelude.{ℕ, Option, Some, None}
 use mathlib.Core.Path.{◌≡◌, refl, sym, subst, ◌∙◌}
 use mathlib.Core.Bool.{Bool, true, false, not, ◌&&◌, ◌||◌, cond, false≢true}
 use mathlib.Core.List.{List}
@@ -7,8 +8,6 @@ use Prim.Native.Nat.{ℕ, suc, ◌<◌}
 use native.Mathlib.Omega.{arith}
 use lib.Dec.{leb, eqb}
 use borrow.Author.Tests.{eqb-true}
-use Rattle.shape.specs.declared.value.Value.{Value}
-use Rattle.shape.specs.declared.value.Value.TheVariants.{Of, None}
 use Rattle.shape.proofs.Tests.{and_left, and_right, or_cases, or_left, or_right}
 use Rattle.table.specs.declared.Kind.TheVariants.{Pacs008, Pacs002}
 use Rattle.table.specs.Checks.{rejecting, order_of, is_in}
@@ -101,10 +100,10 @@ told-ended status check e = go (eqb status 0) refl
 -- what has become of a pacs.008 of a journal whose steps fit
 module _ (s : List ℕ) (k : ℕ) (fit : (j : ℕ) → j < (head_of s).steps → step_fits (step_of s j) ≡ true) (low : k < (head_of s).steps)
     (first : is_kind 1 (step_of s k) ≡ true) where
-  told-by : (answer : Value) → answer_to s k ≡ answer → (is_waiting (step_of s k) && not (is_answered answer)) ≡ false
+  told-by : (answer : Option ℕ) → answer_to s k ≡ answer → (is_waiting (step_of s k) && not (is_answered answer)) ≡ false
       → told_as (result_in s k answer).status (result_in s k answer).check ≡ true
   unfolding result_in is_answered
-  told-by (Of j) e over =
+  told-by (Some j) e over =
       let there = answer-place s k j e in
       closed-told (step_of s j) k (fit j there.1) there.0
   told-by None e over = sent-told (step_of s k) (sent-ends (step_of s k) (fit k low) first) first (alone (is_waiting (step_of s k)) over)
@@ -117,9 +116,9 @@ module _ (s : List ℕ) (k : ℕ) (fit : (j : ℕ) → j < (head_of s).steps →
   unfolding result_now waits
   result-told over = told-by (answer_to s k) refl over
 
-  ended_by : (answer : Value) → answer_to s k ≡ answer → eqb (result_in s k answer).status 0 ≡ false
+  ended_by : (answer : Option ℕ) → answer_to s k ≡ answer → eqb (result_in s k answer).status 0 ≡ false
   unfolding result_in
-  ended_by (Of j) e =
+  ended_by (Some j) e =
       let there = answer-place s k j e in
       told-ended (step_of s j).status (step_of s j).check (closed-told (step_of s j) k (fit j there.1) there.0)
   ended_by None e = sent-ended (step_of s k).status (step_of s k).check (sent-ends (step_of s k) (fit k low) first)

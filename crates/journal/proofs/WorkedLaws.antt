@@ -1,11 +1,11 @@
 -- The steps of a journal and working forward over them: the seat behind them has them as its journal, and its head, its opening sums and the
 -- height of its numbers follow from the seat before. What each possible step keeps is kept by all of them. And one turn of a loop over them.
 -- Assumes nothing.
+use Rattle.std.specs.Prelude.{Some, None}
 use mathlib.Core.Path.{◌≡◌, refl, sym, ap, subst, ◌∙◌}
 use mathlib.Core.Logic.{⊎_elim}
 use mathlib.Core.Bool.{Bool, true, false, cond}
 use mathlib.Core.List.{List, [], ◌∷◌, ◌++◌}
-use mathlib.Core.Option.{none, some}
 use Prim.Native.Nat.{ℕ, zero, suc, ◌+◌, ◌-◌, ◌≤◌, ◌<◌}
 use native.Mathlib.Omega.{arith}
 use native.Mathlib.Nat.{eq-or-lt_of_le}
@@ -24,35 +24,35 @@ use Rattle.journal.proofs.Backed.{possible-fits}
 use Rattle.journal.proofs.Grown.{Grown, grown-more}
 
 -- working forward by one step
-pub worked-none : (s : List ℕ) → worked [] s ≡ some s
+pub worked-none : (s : List ℕ) → worked [] s ≡ Some s
 unfolding worked
 worked-none s = refl
 
-worked-first : (x : Step) (xs : List Step) (s : List ℕ) → worked (x ∷ xs) s ≡ cond (possible x s) (worked xs (stepped x s)) none
+worked-first : (x : Step) (xs : List Step) (s : List ℕ) → worked (x ∷ xs) s ≡ cond (possible x s) (worked xs (stepped x s)) None
 unfolding worked
 worked-first x xs s = refl
 
 -- if a journal was worked, its first step was possible, and the others were worked behind it
-module _ (x : Step) (xs : List Step) (s t : List ℕ) (w : worked (x ∷ xs) s ≡ some t) where
-  by-test : (u : Bool) → possible x s ≡ u → cond u (worked xs (stepped x s)) none ≡ some t
-      → (possible x s ≡ true) × (worked xs (stepped x s) ≡ some t)
+module _ (x : Step) (xs : List Step) (s t : List ℕ) (w : worked (x ∷ xs) s ≡ Some t) where
+  by-test : (u : Bool) → possible x s ≡ u → cond u (worked xs (stepped x s)) None ≡ Some t
+      → (possible x s ≡ true) × (worked xs (stepped x s) ≡ Some t)
   by-test true e v = (e, v)
   by-test false e v = let z : ◌≡◌ {A = ℕ} 0 1 = cc in absurd (omega arith)
 
-  both : (possible x s ≡ true) × (worked xs (stepped x s) ≡ some t)
+  both : (possible x s ≡ true) × (worked xs (stepped x s) ≡ Some t)
   both = by-test (possible x s) refl (sym (worked-first x xs s) ∙ w)
 
   pub first-possible : possible x s ≡ true
   first-possible = both.0
 
-  pub rest-worked : worked xs (stepped x s) ≡ some t
+  pub rest-worked : worked xs (stepped x s) ≡ Some t
   rest-worked = both.1
 
 -- one step more at the end
-pub worked-more : (x : Step) (xs : List Step) (s t : List ℕ) → worked xs s ≡ some t → possible x t ≡ true
-    → worked (xs ++ (x ∷ [])) s ≡ some (stepped x t)
+pub worked-more : (x : Step) (xs : List Step) (s t : List ℕ) → worked xs s ≡ Some t → possible x t ≡ true
+    → worked (xs ++ (x ∷ [])) s ≡ Some (stepped x t)
 worked-more x [] s t w p =
-    let here : s ≡ t = let at_once : some s ≡ some t = sym (worked-none s) ∙ w in cc in
+    let here : s ≡ t = let at_once : Some s ≡ Some t = sym (worked-none s) ∙ w in cc in
     worked-first x [] s ∙ rw (here, p) (worked-none (stepped x t))
 worked-more x (y ∷ xs) s t w p =
     worked-first y (xs ++ (x ∷ [])) s
@@ -61,13 +61,13 @@ worked-more x (y ∷ xs) s t w p =
 -- the last step of what was worked
 pub record Last (x : Step) (xs : List Step) (s t : List ℕ) : Type 0 where
   pub behind : List ℕ
-  pub before : worked xs s ≡ some behind
+  pub before : worked xs s ≡ Some behind
   pub can : possible x behind ≡ true
   pub comes : stepped x behind ≡ t
 
-pub worked-last : (x : Step) (xs : List Step) (s t : List ℕ) → worked (xs ++ (x ∷ [])) s ≡ some t → Last x xs s t
+pub worked-last : (x : Step) (xs : List Step) (s t : List ℕ) → worked (xs ++ (x ∷ [])) s ≡ Some t → Last x xs s t
 worked-last x [] s t w =
-    let at_once : some (stepped x s) ≡ some t = sym (worked-none (stepped x s)) ∙ rest-worked x [] s t w in
+    let at_once : Some (stepped x s) ≡ Some t = sym (worked-none (stepped x s)) ∙ rest-worked x [] s t w in
     record { behind = s; before = worked-none s; can = first-possible x [] s t w; comes = cc }
 worked-last x (y ∷ xs) s t w =
     let rest : Last x xs (stepped y s) t = worked-last x xs (stepped y s) t (rest-worked y (xs ++ (x ∷ [])) s t w) in
@@ -148,9 +148,9 @@ reached-first x xs s t l b e r =
           subst (λ (m : ℕ). Grown m t) over (r.grown (suc n) (grown-more x n s g e b));
     }
 
-pub reached : (xs : List Step) (s t : List ℕ) → length s ≡ seat_long → (head_of s).steps + length xs ≤ steps → worked xs s ≡ some t → Reached xs s t
+pub reached : (xs : List Step) (s t : List ℕ) → length s ≡ seat_long → (head_of s).steps + length xs ≤ steps → worked xs s ≡ Some t → Reached xs s t
 reached [] s t l b w =
-    let here : s ≡ t = let at_once : some s ≡ some t = sym (worked-none s) ∙ w in cc in
+    let here : s ≡ t = let at_once : Some s ≡ Some t = sym (worked-none s) ∙ w in cc in
     subst (λ (u : List ℕ). Reached [] s u) here (reached-none s l)
 reached (x ∷ xs) s t l b w =
     let p : possible x s ≡ true = first-possible x xs s t w in
@@ -178,9 +178,9 @@ journal-last s h =
 -- what each possible step keeps is kept by all of a journal
 pub worked-keeps : (P : List ℕ → Type 0)
     → ((x : Step) (s : List ℕ) → length s ≡ seat_long → (head_of s).steps < steps → possible x s ≡ true → P s → P (stepped x s))
-    → (xs : List Step) (s t : List ℕ) → length s ≡ seat_long → (head_of s).steps + length xs ≤ steps → worked xs s ≡ some t → P s → P t
+    → (xs : List Step) (s t : List ℕ) → length s ≡ seat_long → (head_of s).steps + length xs ≤ steps → worked xs s ≡ Some t → P s → P t
 worked-keeps P keeps [] s t l b w p =
-    let here : s ≡ t = let at_once : some s ≡ some t = sym (worked-none s) ∙ w in cc in
+    let here : s ≡ t = let at_once : Some s ≡ Some t = sym (worked-none s) ∙ w in cc in
     subst P here p
 worked-keeps P keeps (x ∷ xs) s t l b w p =
     let can : possible x s ≡ true = first-possible x xs s t w in
@@ -190,7 +190,7 @@ worked-keeps P keeps (x ∷ xs) s t l b w p =
     worked-keeps P keeps xs (stepped x s) t (stepped-length x s l e room) (omega arith) (rest-worked x xs s t w) (keeps x s l room can p)
 
 -- each step that was worked was possible
-pub worked-fits : (xs : List Step) (s t : List ℕ) → worked xs s ≡ some t → every step_fits xs ≡ true
+pub worked-fits : (xs : List Step) (s t : List ℕ) → worked xs s ≡ Some t → every step_fits xs ≡ true
 worked-fits [] s t w = refl
 worked-fits (x ∷ xs) s t w =
     rw (possible-fits x s (first-possible x xs s t w)) (worked-fits xs (stepped x s) t (rest-worked x xs s t w))
@@ -212,17 +212,17 @@ steps-left s k n h =
     rw one (ap (λ (j : ℕ). step_of s k ∷ steps_from s j (n - (k + 1))) (sym (add-one k)))
 
 module _ (s t : List ℕ) (x : Step) (k n : ℕ) (h : k < n) (read : x ≡ step_of s k) where
-  work-turn : worked (steps_from s k (n - k)) t ≡ cond (possible x t) (worked (steps_from s (k + 1) (n - (k + 1))) (stepped x t)) none
+  work-turn : worked (steps_from s k (n - k)) t ≡ cond (possible x t) (worked (steps_from s (k + 1) (n - (k + 1))) (stepped x t)) None
   unfolding worked
   work-turn = rw (steps-left s k n h, read)
 
   pub work-hit : possible x t ≡ true → worked (steps_from s k (n - k)) t ≡ worked (steps_from s (k + 1) (n - (k + 1))) (stepped x t)
   work-hit e = work-turn ∙ rw e
 
-  pub work-miss : possible x t ≡ false → worked (steps_from s k (n - k)) t ≡ none
+  pub work-miss : possible x t ≡ false → worked (steps_from s k (n - k)) t ≡ None
   work-miss e = work-turn ∙ rw e
 
-pub work-end : (s t : List ℕ) (k n : ℕ) → n ≤ k → worked (steps_from s k (n - k)) t ≡ some t
+pub work-end : (s t : List ℕ) (k n : ℕ) → n ≤ k → worked (steps_from s k (n - k)) t ≡ Some t
 unfolding worked steps_from
 work-end s t k n h =
     let nothing : n - k ≡ 0 = omega arith in

@@ -1,24 +1,22 @@
 -- Which step answers which, and what has become of a step: request 9 of document 02. A row never changes once it is written: a transfer's row keeps
 -- what its own submit did, the answer's row what the answer did, and names the step that it answers.
-use Rattle.std.specs.Prelude.{Bool, true, false, not, ◌&&◌, ◌||◌, cond, List, ℕ, zero, suc, ◌-◌, leb, eqb}
-use Rattle.shape.specs.declared.value.Value.{Value}
-use Rattle.shape.specs.declared.value.Value.TheVariants.{Of, None}
+use Rattle.std.specs.Prelude.{Bool, true, false, not, ◌&&◌, ◌||◌, cond, List, ℕ, zero, suc, ◌-◌, leb, eqb, Option, Some, None}
 use Rattle.layout.specs.declared.rows.Step.{Step}
 use Rattle.layout.specs.Seat.{head_of, step_of}
 use Rattle.journal.specs.declared.results.Outcome.{Outcome}
 use Rattle.journal.specs.Steps.{moves, is_waiting}
 
 -- the place of the first step that names the one with this number, among n steps from place j on
-unfoldable pub answer_from : List ℕ → ℕ → ℕ → ℕ → Value
+unfoldable pub answer_from : List ℕ → ℕ → ℕ → ℕ → Option ℕ
 answer_from s number j zero = None
-answer_from s number j (suc n) = cond (eqb (step_of s j).answers number) (Of j) (answer_from s number (suc j) n)
+answer_from s number j (suc n) = cond (eqb (step_of s j).answers number) (Some j) (answer_from s number (suc j) n)
 
 -- the place of the answer to the step at a place
-unfoldable pub answer_to : List ℕ → ℕ → Value
+unfoldable pub answer_to : List ℕ → ℕ → Option ℕ
 answer_to s k = answer_from s (suc k) 0 (head_of s).steps
 
-unfoldable pub is_answered : Value → Bool
-is_answered (Of j) = true
+unfoldable pub is_answered : Option ℕ → Bool
+is_answered (Some j) = true
 is_answered None = false
 
 -- the step x at place k waits: its row says so, and no row answers it
@@ -30,8 +28,8 @@ abbrev pub row_result : List ℕ → ℕ → Outcome
 row_result s k = record { status = (step_of s k).status; check = (step_of s k).check }
 
 -- what has become of the step at a place: the result of its answer, where there is one, else its own
-unfoldable pub result_in : List ℕ → ℕ → Value → Outcome
-result_in s k (Of j) = row_result s j
+unfoldable pub result_in : List ℕ → ℕ → Option ℕ → Outcome
+result_in s k (Some j) = row_result s j
 result_in s k None = row_result s k
 
 unfoldable pub result_now : List ℕ → ℕ → Outcome

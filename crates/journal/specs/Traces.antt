@@ -1,7 +1,7 @@
 -- Earlier steps: the first one in a journal that leaves the trace that is looked for, with its place. The checks on repeated identifiers, on the
 -- payment that a pacs.028 asks after and on the transfer that a pacs.002 answers (document 01, "The checks", 6, 10, 11 and 17; request 9 of
 -- document 02, 35) see a journal through these alone.
-use Rattle.std.specs.Prelude.{Bool, true, false, not, ◌&&◌, ◌||◌, cond, List, [], ◌∷◌, ℕ, suc, ltb, eqb}
+use Rattle.std.specs.Prelude.{Bool, true, false, not, ◌&&◌, ◌||◌, cond, List, [], ◌∷◌, ℕ, suc, ltb, eqb, Option, Some, None}
 use Rattle.shape.specs.declared.stored.Identifier.{Identifier}
 use Rattle.shape.specs.Stored.{same_identifier, same_uetr}
 use Rattle.table.specs.declared.Kind.TheVariants.{Pacs008, Camt050}
@@ -9,8 +9,7 @@ use Rattle.slip.specs.Meaning.{steps, kind_number}
 use Rattle.layout.specs.declared.rows.Step.{Step}
 use Rattle.journal.specs.declared.traces.Trace.{Trace}
 use Rattle.journal.specs.declared.traces.Trace.TheVariants.{Message, Payment, Transfer, Waiting, Due}
-use Rattle.journal.specs.declared.traces.Earlier.{Earlier}
-use Rattle.journal.specs.declared.traces.Earlier.TheVariants.{Of, None}
+use Rattle.journal.specs.declared.traces.Placed.{Placed}
 use Rattle.journal.specs.Steps.{set_kind, is_kind}
 use Rattle.journal.specs.Answers.{waits}
 use Rattle.journal.specs.Working.{journal_of}
@@ -29,16 +28,19 @@ leaves (Waiting id) s k x = waits_as id s k x
 leaves (Due id receiver) s k x = eqb x.receiver receiver && waits_as id s k x
 
 -- the first step that passes a test is the lowest one; it is given with its place, where the places of these steps are counted from k on
-unfoldable pub first_in : (ℕ → Step → Bool) → ℕ → List Step → Earlier
-first_in test k [] = None
-first_in test k (x ∷ xs) = cond (test k x) (Of k x) (first_in test (suc k) xs)
+abbrev pub placed : ℕ → Step → Placed
+placed place x = record { place = place; step = x }
 
-unfoldable pub earliest : Trace → List ℕ → Earlier
+unfoldable pub first_in : (ℕ → Step → Bool) → ℕ → List Step → Option Placed
+first_in test k [] = None
+first_in test k (x ∷ xs) = cond (test k x) (Some (placed k x)) (first_in test (suc k) xs)
+
+unfoldable pub earliest : Trace → List ℕ → Option Placed
 earliest trace s = first_in (leaves trace s) 0 (journal_of s)
 
 -- a step that is looked for is there
-unfoldable pub is_there : Earlier → Bool
-is_there (Of k x) = true
+unfoldable pub is_there : Option Placed → Bool
+is_there (Some e) = true
 is_there None = false
 
 -- what became of a pacs.008 with this MsgId is known: there is one, and none of them waits
@@ -46,6 +48,6 @@ unfoldable pub is_known : Identifier → List ℕ → Bool
 is_known id s = is_there (earliest (Payment id) s) && not (is_there (earliest (Waiting id) s))
 
 -- what was found stands at a place that a journal has
-abbrev pub place_fits : Earlier → Bool
-place_fits (Of k x) = ltb k steps
+abbrev pub place_fits : Option Placed → Bool
+place_fits (Some e) = ltb e.place steps
 place_fits None = true

@@ -1,7 +1,6 @@
 -- Working forward: what a step does to a seat, when it is possible there, and what taking the last step back does. Document 01, "Room, seats,
 -- directory" and "Calls and refusals".
-use Rattle.std.specs.Prelude.{Bool, not, ◌&&◌, ◌||◌, cond, List, [], ◌∷◌, ℕ, zero, suc, ◌+◌, ◌-◌, leb, eqb}
-use Rattle.std.proofs.Math.Option.{Option, none, some}
+use Rattle.std.specs.Prelude.{Bool, not, ◌&&◌, ◌||◌, cond, List, [], ◌∷◌, ℕ, zero, suc, ◌+◌, ◌-◌, leb, eqb, Option, Some, None}
 use Rattle.layout.specs.declared.rows.Head.{Head}
 use Rattle.layout.specs.declared.rows.Settings.{Settings}
 use Rattle.layout.specs.declared.rows.Account.{Account}
@@ -95,5 +94,5 @@ journal_of s = steps_from s 0 (head_of s).steps
 
 -- the seat behind these steps, one after the other; none where one of them is not possible
 unfoldable pub worked : List Step → List ℕ → Option (List ℕ)
-worked [] s = some s
-worked (x ∷ xs) s = cond (possible x s) (worked xs (stepped x s)) none
+worked [] s = Some s
+worked (x ∷ xs) s = cond (possible x s) (worked xs (stepped x s)) None

@@ -15,7 +15,7 @@ mod working;
 
 pub use answers::result_now;
 pub use limits::{available_below, blocked_into, blocked_out, turnover_above, turnover_shut};
-pub use results::{ACCC, Outcome, WAITS};
-pub use steps::{SET, SUM_MOST, no_identifier, no_settings, settings_fit, step_fits};
-pub use traces::{Earlier, Trace, earliest, is_known, is_there};
+pub use results::Outcome;
+pub use steps::{SET, SUM_MOST, no_identifier, no_settings, no_step, settings_fit, step_fits};
+pub use traces::{Placed, Trace, earliest, is_known, is_there};
 pub use working::{append, drop_last, is_possible};

@@ -6,25 +6,18 @@ ghost use Rattle.journal.specs.Steps.{no_message, no_movement, no_set, set_fits,
 ghost use Rattle.journal.specs.Steps.{between, is_movement, movement_fits, uetr_fits, reference_fits, receiver_fits, answers_fits};
 ghost use Rattle.journal.specs.Steps.{message_fits, step_fits, no_step};
 
-use crate::results::{ACCC, WAITS, result_fits};
+use crate::results::result_fits;
 use directory::CODE_MOST;
 use layout::ACCOUNTS;
 use layout::rows::{Settings, Step};
 use shape::date::is_time;
-use shape::field::{IDENTIFIER_MOST, is_identifier};
-use shape::stored::{Identifier, Uetr, identifier_of, same_identifier, text_of};
-use slip::STEPS;
+use shape::field::is_identifier;
+use shape::stored::{Identifier, NO_IDENTIFIER, NO_UETR, Uetr, identifier_of, text_of};
+use slip::{ACCC, CAMT_050, PACS_002, PACS_008, STEPS, WAITS};
 use table::is_rejecting;
 
-// The kinds of steps by number: messages as on their slips, a set by a number of the journal's own.
-pub const PACS_008: u64 = 1;
-
-pub const CAMT_050: u64 = 2;
-
-pub const PACS_028: u64 = 3;
-
-pub const PACS_002: u64 = 4;
-
+// The kind of a set, by a number of the journal's own; messages have the numbers of their slips. A row of a room holds any number, so kinds and
+// statuses stay numbers here: `step_fits` tells which are good.
 pub const SET: u64 = 5;
 
 // The highest opening sum, LTK and LPO, and the highest amount, in kopecks.
@@ -35,6 +28,7 @@ pub const AMOUNT_MOST: u64 = 9999999999999;
 // The highest number of seven bytes.
 const SEVEN_MOST: u64 = (1 << 56) - 1;
 
+// The rows of zeros have the names of their definitions, which a `default()` would not have.
 pub fn no_settings() -> Settings
     ensures { result ≡ no_settings }
 {
@@ -49,13 +43,7 @@ pub fn no_settings() -> Settings
 pub fn no_identifier() -> Identifier
     ensures { result ≡ no_identifier }
 {
-    Identifier {
-        first: 0,
-        second: 0,
-        third: 0,
-        fourth: 0,
-        fifth: 0,
-    }
+    NO_IDENTIFIER
 }
 
 // What stands where no step does.
@@ -68,7 +56,7 @@ pub fn no_step() -> Step
         check: 0,
         sender: 0,
         id: no_identifier(),
-        uetr: Uetr { high: 0, low: 0 },
+        uetr: NO_UETR,
         created: 0,
         reference: no_identifier(),
         debit: 0,
@@ -82,30 +70,18 @@ pub fn no_step() -> Step
     }
 }
 
+#[tactic(auto, unfolding(crate::specs::Steps::settings_fit))]
 pub fn settings_fit(x: Settings) -> bool
     ensures { result ≡ settings_fit x }
 {
     (x.out <= 1) & (x.into <= 1) & (x.ltk <= SUM_MOST) & (x.lpo <= SUM_MOST + 1)
 }
 
-pub fn same_settings(x: Settings, y: Settings) -> bool
-    ensures { result ≡ same_settings x y }
-{
-    (x.out == y.out) & (x.into == y.into) & (x.ltk == y.ltk) & (x.lpo == y.lpo)
-}
-
 // Whether there are zeros alone.
 fn all_zeros(s: &[u8]) -> bool
     ensures { result ≡ every (λ (b : ℕ). eqb b 0) s.now }
 {
-    let mut i = 0;
-    while i < s.len() {
-        if s[i] != 0 {
-            return false;
-        }
-        i += 1;
-    }
-    true
+    s.iter().all(|b| *b == 0)
 }
 
 // Whether each number has seven bytes.
@@ -120,64 +96,67 @@ fn is_low(x: Identifier) -> bool
 }
 
 // Whether an identifier is stored so: the text that stands there is one, and is stored as these very numbers. They are those where nothing
-// stands above seven bytes nor behind the text; so it is in a fit room, and the text need not be stored again.
+// stands above seven bytes nor after the text; so it is in a fit room, and the text need not be stored again.
+#[tactic(auto, unfolding(crate::specs::Steps::is_stored))]
 fn is_stored(x: Identifier) -> bool
     ensures { result ≡ is_stored x }
 {
     let text = text_of(x);
-    let bytes = text.bytes;
-    let length = text.length;
-    if IDENTIFIER_MOST < length {
+    let word = &text.bytes[..text.length];
+    if !is_identifier(word) {
         return false;
     }
-    if !is_identifier(&bytes[..length]) {
-        return false;
-    }
-    if is_low(x) & all_zeros(&bytes[length..]) {
+    if is_low(x) & all_zeros(&text.bytes[text.length..]) {
         return true;
     }
-    same_identifier(identifier_of(&bytes[..length]), x)
+    identifier_of(word) == x
 }
 
 // Whether a UETR is stored so: the version's digit is 4 and the variant's 8 to b.
+#[tactic(auto, unfolding(crate::specs::Steps::is_stored_uetr))]
 fn is_stored_uetr(x: Uetr) -> bool
     ensures { result ≡ is_stored_uetr x }
 {
     ((x.high >> 12) % 16 == 4) & (x.low >> 62 == 2)
 }
 
+#[tactic(auto, unfolding(crate::specs::Steps::no_uetr))]
 fn no_uetr(x: Uetr) -> bool
     ensures { result ≡ no_uetr x }
 {
-    (x.high == 0) & (x.low == 0)
+    x == NO_UETR
 }
 
+#[tactic(auto, unfolding(crate::specs::Steps::no_message, shape::specs::Stored::same_identifier))]
 fn no_message(x: Step) -> bool
     ensures { result ≡ no_message x }
 {
     (x.status == 0)
         & (x.check == 0)
         & (x.sender == 0)
-        & same_identifier(x.id, no_identifier())
+        & (x.id == no_identifier())
         & no_uetr(x.uetr)
         & (x.created == 0)
-        & same_identifier(x.reference, no_identifier())
+        & (x.reference == no_identifier())
         & (x.receiver == 0)
         & (x.answers == 0)
 }
 
+#[tactic(auto, unfolding(crate::specs::Steps::no_movement))]
 fn no_movement(x: Step) -> bool
     ensures { result ≡ no_movement x }
 {
     (x.debit == 0) & (x.credit == 0) & (x.amount == 0)
 }
 
+#[tactic(auto, unfolding(crate::specs::Steps::no_set, crate::specs::Steps::same_settings))]
 fn no_set(x: Step) -> bool
     ensures { result ≡ no_set x }
 {
-    (x.account == 0) & same_settings(x.old, no_settings()) & same_settings(x.given, no_settings())
+    (x.account == 0) & (x.old == no_settings()) & (x.given == no_settings())
 }
 
+#[tactic(auto, unfolding(crate::specs::Steps::set_fits))]
 fn set_fits(x: Step) -> bool
     ensures { result ≡ set_fits x }
 {
@@ -189,6 +168,7 @@ fn set_fits(x: Step) -> bool
 }
 
 // Whether a step moves money: it is a camt.050 or an answer that was carried out.
+#[tactic(auto, unfolding(crate::specs::Steps::moves, slip::specs::Meaning::kind_number, slip::specs::Meaning::status_number))]
 pub fn moves(x: Step) -> bool
     ensures { result ≡ moves x }
 {
@@ -196,6 +176,7 @@ pub fn moves(x: Step) -> bool
 }
 
 // Whether a step is a pacs.008 that waits for its answer, or did.
+#[tactic(auto, unfolding(crate::specs::Steps::is_waiting, slip::specs::Meaning::kind_number, slip::specs::Meaning::status_number))]
 pub fn is_waiting(x: Step) -> bool
     ensures { result ≡ is_waiting x }
 {
@@ -203,6 +184,7 @@ pub fn is_waiting(x: Step) -> bool
 }
 
 // Whether a step is an answer that settles or rejects the transfer that it names.
+#[tactic(auto, unfolding(crate::specs::Steps::closes, slip::specs::Meaning::kind_number))]
 fn closes(x: Step) -> bool
     ensures { result ≡ closes x }
 {
@@ -210,70 +192,83 @@ fn closes(x: Step) -> bool
 }
 
 // Whether the accounts of a movement are such as its kind moves between.
+#[tactic(auto, unfolding(crate::specs::Steps::between, slip::specs::Meaning::kind_number))]
 fn is_between(x: Step) -> bool
     ensures { result ≡ between x }
 {
     if x.kind == CAMT_050 {
-        return (x.debit / 2 == x.credit / 2) & (x.debit != x.credit);
+        (x.debit / 2 == x.credit / 2) & (x.debit != x.credit)
+    } else {
+        (x.debit % 2 == 1) & (x.credit % 2 == 1)
     }
-    (x.debit % 2 == 1) & (x.credit % 2 == 1)
 }
 
+#[tactic(auto, unfolding(crate::specs::Steps::is_movement))]
 fn is_movement(x: Step) -> bool
     ensures { result ≡ is_movement x }
 {
-    (1 <= x.amount)
-        & (x.amount <= AMOUNT_MOST)
+    matches!(x.amount, 1..=AMOUNT_MOST)
         & (x.debit < ACCOUNTS as u64)
         & (x.credit < ACCOUNTS as u64)
         & is_between(x)
 }
 
+#[tactic(auto, unfolding(crate::specs::Steps::movement_fits))]
 fn movement_fits(x: Step) -> bool
     ensures { result ≡ movement_fits x }
 {
     if moves(x) | is_waiting(x) {
-        return is_movement(x);
+        is_movement(x)
+    } else {
+        no_movement(x)
     }
-    no_movement(x)
 }
 
+#[tactic(auto, unfolding(crate::specs::Steps::uetr_fits, slip::specs::Meaning::kind_number))]
 fn uetr_fits(x: Step) -> bool
     ensures { result ≡ uetr_fits x }
 {
     if x.kind == PACS_002 {
-        return no_uetr(x.uetr);
+        no_uetr(x.uetr)
+    } else {
+        is_stored_uetr(x.uetr)
     }
-    is_stored_uetr(x.uetr)
 }
 
+#[tactic(auto, unfolding(crate::specs::Steps::reference_fits, slip::specs::Meaning::kind_number, shape::specs::Stored::same_identifier))]
 fn reference_fits(x: Step) -> bool
     ensures { result ≡ reference_fits x }
 {
     if (x.kind == CAMT_050) | (x.kind == PACS_002) {
-        return same_identifier(x.reference, no_identifier());
+        x.reference == no_identifier()
+    } else {
+        is_stored(x.reference)
     }
-    is_stored(x.reference)
 }
 
+#[tactic(auto, unfolding(crate::specs::Steps::receiver_fits))]
 fn receiver_fits(x: Step) -> bool
     ensures { result ≡ receiver_fits x }
 {
     if is_waiting(x) {
-        return x.receiver <= CODE_MOST;
+        x.receiver <= CODE_MOST
+    } else {
+        x.receiver == 0
     }
-    x.receiver == 0
 }
 
+#[tactic(auto, unfolding(crate::specs::Steps::answers_fits))]
 fn answers_fits(x: Step) -> bool
     ensures { result ≡ answers_fits x }
 {
     if closes(x) {
-        return (1 <= x.answers) & (x.answers <= STEPS);
+        matches!(x.answers, 1..=STEPS)
+    } else {
+        x.answers == 0
     }
-    x.answers == 0
 }
 
+#[tactic(auto, unfolding(crate::specs::Steps::message_fits))]
 fn message_fits(x: Step) -> bool
     ensures { result ≡ message_fits x }
 {
@@ -290,11 +285,13 @@ fn message_fits(x: Step) -> bool
 }
 
 // Whether a step is one that a journal can have.
+#[tactic(auto, unfolding(crate::specs::Steps::step_fits))]
 pub fn step_fits(x: Step) -> bool
     ensures { result ≡ step_fits x }
 {
     if x.kind == SET {
-        return set_fits(x);
+        set_fits(x)
+    } else {
+        message_fits(x)
     }
-    message_fits(x)
 }

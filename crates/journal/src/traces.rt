@@ -5,14 +5,15 @@ ghost use Rattle.layout.specs.Seat.{seat_long, head_of};
 ghost use Rattle.journal.specs.Traces.{waits_as, leaves, earliest, is_there, is_known};
 
 use crate::answers::waits;
-use crate::steps::{CAMT_050, PACS_008, SET};
+use crate::steps::SET;
 use layout::rows::Step;
 use layout::{head, step};
-use shape::stored::{Identifier, Uetr, same_identifier, same_uetr};
+use shape::stored::{Identifier, Uetr};
+use slip::{CAMT_050, PACS_008};
 
 // What is looked for: a message with a MsgId, a pacs.008 with it, a pacs.008 or camt.050 with a UETR, a pacs.008 that waits with a MsgId, one that
 // waits with it for the answer of a bank.
-#[derive(Clone, Copy)]
+#[derive(Clone, Copy, PartialEq, Eq, Debug)]
 pub enum Trace {
     Message(Identifier),
     Payment(Identifier),
@@ -21,71 +22,71 @@ pub enum Trace {
     Due(Identifier, u64),
 }
 
-// The step that was found with its place in the journal, from 0 on, or that there is none.
-#[derive(Clone, Copy)]
-pub enum Earlier {
-    Of(usize, Step),
-    None,
+// A step that was found, with its place in the journal, from 0 on.
+#[derive(Clone, Copy, PartialEq, Eq, Debug)]
+pub struct Placed {
+    pub place: usize,
+    pub step: Step,
 }
 
-// Whether the step at a place waits with a MsgId. Few steps have it, so that is asked first.
-fn waits_as(s: &[u64], id: Identifier, k: usize, x: Step) -> bool
-    requires { (length s.now ≡ seat_long) × ((head_of s.now).steps ≤ steps) × (k < steps) }
-    ensures { result ≡ waits_as id s.now k x }
+// Whether a step at its place waits with a MsgId. Few steps have it, so that is asked first.
+#[tactic(auto, unfolding(crate::specs::Traces::waits_as, shape::specs::Stored::same_identifier))]
+fn waits_as(s: &[u64], id: Identifier, at: Placed) -> bool
+    requires { (length s.now ≡ seat_long) × ((head_of s.now).steps ≤ steps) × (at.place < steps) }
+    ensures { result ≡ waits_as id s.now at.place at.step }
 {
-    if !same_identifier(x.id, id) {
-        return false;
-    }
-    waits(s, k, x)
+    (at.step.id == id) && waits(s, at)
 }
 
-// Whether the step at a place leaves the trace.
-fn leaves(s: &[u64], trace: Trace, k: usize, x: Step) -> bool
-    requires { (length s.now ≡ seat_long) × ((head_of s.now).steps ≤ steps) × (k < steps) }
-    ensures { result ≡ leaves trace s.now k x }
+// Whether a step at its place leaves the trace.
+#[tactic(auto, unfolding(crate::specs::Traces::leaves, slip::specs::Meaning::kind_number, shape::specs::Stored::same_identifier, shape::specs::Stored::same_uetr))]
+fn leaves(s: &[u64], trace: Trace, at: Placed) -> bool
+    requires { (length s.now ≡ seat_long) × ((head_of s.now).steps ≤ steps) × (at.place < steps) }
+    ensures { result ≡ leaves trace s.now at.place at.step }
 {
+    let x = at.step;
     match trace {
-        Trace::Message(id) => (x.kind != SET) & same_identifier(x.id, id),
-        Trace::Payment(id) => (x.kind == PACS_008) & same_identifier(x.id, id),
+        Trace::Message(id) => (x.kind != SET) & (x.id == id),
+        Trace::Payment(id) => (x.kind == PACS_008) & (x.id == id),
         Trace::Transfer(uetr) => {
-            ((x.kind == PACS_008) | (x.kind == CAMT_050)) & same_uetr(x.uetr, uetr)
+            ((x.kind == PACS_008) | (x.kind == CAMT_050)) & (x.uetr == uetr)
         }
-        Trace::Waiting(id) => waits_as(s, id, k, x),
-        Trace::Due(id, receiver) => (x.receiver == receiver) & waits_as(s, id, k, x),
+        Trace::Waiting(id) => waits_as(s, id, at),
+        Trace::Due(id, receiver) => (x.receiver == receiver) & waits_as(s, id, at),
     }
 }
 
 // The first step of a seat's journal that leaves the trace.
-pub fn earliest(s: &[u64], trace: Trace) -> Earlier
+#[tactic(auto, using(crate::proofs::TraceLaws::loop_of_earliest))]
+pub fn earliest(s: &[u64], trace: Trace) -> Option<Placed>
     requires { (length s.now ≡ seat_long) × ((head_of s.now).steps ≤ steps) }
     ensures { result ≡ earliest trace s.now }
 {
-    let h = head(s);
-    let count = h.steps as usize;
-    let mut k = 0;
-    while k < count {
-        let x = step(s, k);
-        if leaves(s, trace, k, x) {
-            return Earlier::Of(k, x);
+    for place in 0..head(s).steps as usize {
+        let at = Placed {
+            place,
+            step: step(s, place),
+        };
+        if leaves(s, trace, at) {
+            return Some(at);
         }
-        k += 1;
     }
-    Earlier::None
+    None
 }
 
-pub fn is_there(x: Earlier) -> bool
+// Whether a step was found: docs/CONTRACTS.md names it, so it stays beside `is_some`.
+#[tactic(auto, unfolding(crate::specs::Traces::is_there))]
+pub fn is_there(x: Option<Placed>) -> bool
     ensures { result ≡ is_there x }
 {
-    match x {
-        Earlier::Of(_place, _step) => true,
-        Earlier::None => false,
-    }
+    x.is_some()
 }
 
 // Whether it is known what became of a pacs.008 with a MsgId: there is one, and none of them waits.
+#[tactic(auto, unfolding(crate::specs::Traces::is_known, crate::specs::Traces::is_there))]
 pub fn is_known(s: &[u64], id: Identifier) -> bool
     requires { (length s.now ≡ seat_long) × ((head_of s.now).steps ≤ steps) }
     ensures { result ≡ is_known id s.now }
 {
-    is_there(earliest(s, Trace::Payment(id))) & !is_there(earliest(s, Trace::Waiting(id)))
+    earliest(s, Trace::Payment(id)).is_some() & earliest(s, Trace::Waiting(id)).is_none()
 }

@@ -1,5 +1,6 @@
 -- What an answer closes: where it fails by no check, or by one that rejects, a transfer waits for it, and where it fails by none it is accepted.
 -- Assumes nothing.
+use Rattle.std.specs.Prelude.{Option, Some, None}
 use mathlib.Core.Path.{◌≡◌, refl, sym, ap, subst, ◌∙◌}
 use mathlib.Core.Bool.{Bool, true, false, not, ◌||◌, cond, false≢true}
 use mathlib.Core.List.{List, [], ◌∷◌, ◌++◌}
@@ -15,36 +16,25 @@ use Rattle.table.specs.Checks.{rejecting, order_of, is_in, runs}
 use Rattle.table.proofs.Rules.{of_entry}
 use Rattle.slip.specs.Meaning.{steps}
 use Rattle.message.specs.declared.Reply.{Reply}
-use Rattle.message.specs.declared.Reply.TheVariants.{NoReply, Accepts, Declines, Refuses}
+use Rattle.message.specs.declared.Reply.TheVariants.{Accepts, Declines, Refuses}
 use Rattle.message.proofs.Shaped.{Replies, shaped}
 use Rattle.layout.specs.declared.rows.Step.{Step}
 use Rattle.layout.specs.Seat.{head_of, step_of}
 use Rattle.journal.specs.declared.traces.Trace.TheVariants.{Due}
-use Rattle.journal.specs.declared.traces.Earlier.{Earlier}
-use Rattle.journal.specs.declared.traces.Earlier.TheVariants.{Of, None}
+use Rattle.journal.specs.declared.traces.Placed.{Placed}
 use Rattle.journal.specs.Steps.{moves}
 use Rattle.journal.specs.Answers.{waits, same_movement, answerable}
-use Rattle.journal.specs.Traces.{waits_as, leaves, is_there, place_fits}
+use Rattle.journal.specs.Traces.{waits_as, leaves, is_there, place_fits, placed}
 use Rattle.journal.proofs.TraceLaws.{earliest-leaves, earliest-place}
 use Rattle.judge.specs.declared.case.Case.{Case}
 use Rattle.judge.specs.Case.{Arises}
 use Rattle.judge.specs.Rows.{due_to, accepts, declines, refuses, nothing_due, transfer_declined, credit_refused, kept_in, movement_for, movement_in}
-use Rattle.judge.specs.Verdict.{fails, rows_of, first_failing, verdict, step_number, closed_by}
+use Rattle.judge.specs.Verdict.{fails, rows_of, first_failing, verdict}
 use Rattle.judge.proofs.Verdicts.{none-fails, or-neither}
 
 -- a step that was found at a place that a journal has
-pub place-low : {y : Earlier} {k : ℕ} {x : Step} → y ≡ Of k x → place_fits y ≡ true → k < steps
+pub place-low : {y : Option Placed} {k : ℕ} {x : Step} → y ≡ Some (placed k x) → place_fits y ≡ true → k < steps
 place-low {y} {k} {x} e p = ltb-true k steps (sym (ap place_fits e) ∙ p)
-
--- the number of the step that is closed, as the code asks for it
-module _ (kind : Kind) (check : ℕ) (due : Earlier) (answer : kind ≡ Pacs002) (r : Bool) (asked : r ≡ is_in check rejecting) where
-  pub closes-one : (eqb check 0 || r) ≡ true → step_number due ≡ closed_by kind check due
-  unfolding closed_by
-  closes-one e = rw (answer, ← asked, e)
-
-  pub closes-none : (eqb check 0 || r) ≡ false → 0 ≡ closed_by kind check due
-  unfolding closed_by
-  closes-none e = rw (answer, ← asked, e)
 
 -- where the first failing one of a list is none of its front, none of the front fails
 front-passes : (failing : ℕ → Bool) (xs ys : List ℕ) → is_in (first_failing failing (xs ++ ys)) xs ≡ false → (j : ℕ) → is_in j xs ≡ true
@@ -90,7 +80,7 @@ due-there c s answer e =
 pub record Answered (c : Case) (s : List ℕ) : Type 0 where
   pub place : ℕ
   pub transfer : Step
-  pub found : due_to c s ≡ Of place transfer
+  pub found : due_to c s ≡ Some (placed place transfer)
   pub there : transfer ≡ step_of s place
   pub earlier : place < (head_of s).steps
   pub waiting : waits s place transfer ≡ true
@@ -99,28 +89,28 @@ pub answered : (c : Case) (s : List ℕ) → is_there (due_to c s) ≡ true → 
 unfolding due_to is_there leaves waits_as
 answered c s e = go (due_to c s) refl e
   where
-    go : (y : Earlier) → due_to c s ≡ y → is_there y ≡ true → Answered c s
-    go (Of k x) f there =
-        let at = earliest-place (Due c.message.original.stored c.sender) s k x f in
-        let trace = earliest-leaves (Due c.message.original.stored c.sender) s k x f in
-        let due = and_right (eqb x.receiver c.sender) (waits_as c.message.original.stored s k x) trace in
+    go : (y : Option Placed) → due_to c s ≡ y → is_there y ≡ true → Answered c s
+    go (Some e) f there =
+        let at = earliest-place (Due c.message.original.stored c.sender) s e.place e.step f in
+        let trace = earliest-leaves (Due c.message.original.stored c.sender) s e.place e.step f in
+        let due = and_right (eqb e.step.receiver c.sender) (waits_as c.message.original.stored s e.place e.step) trace in
         record {
-          place = k;
-          transfer = x;
+          place = e.place;
+          transfer = e.step;
           found = f;
           there = at.0;
           earlier = at.1;
-          waiting = and_right (same_identifier x.id c.message.original.stored) (waits s k x) due;
+          waiting = and_right (same_identifier e.step.id c.message.original.stored) (waits s e.place e.step) due;
         }
     go None f there = absurd (false≢true there)
 
 -- an answer that fails by no check accepts the transfer
-only-accepts : (r : Reply) → (r ≡ NoReply → ⊥) → declines r ≡ false → refuses r ≡ false → accepts r ≡ true
+only-accepts : (r : Option Reply) → (r ≡ None → ⊥) → declines r ≡ false → refuses r ≡ false → accepts r ≡ true
 unfolding declines refuses accepts
-only-accepts NoReply some not-declined not-refused = absurd (some refl)
-only-accepts Accepts some not-declined not-refused = refl
-only-accepts Declines some not-declined not-refused = absurd (false≢true (sym not-declined))
-only-accepts Refuses some not-declined not-refused = absurd (false≢true (sym not-refused))
+only-accepts None some not-declined not-refused = absurd (some refl)
+only-accepts (Some Accepts) some not-declined not-refused = refl
+only-accepts (Some Declines) some not-declined not-refused = absurd (false≢true (sym not-declined))
+only-accepts (Some Refuses) some not-declined not-refused = absurd (false≢true (sym not-refused))
 
 module _ (c : Case) (s : List ℕ) (a : Arises c) (none : verdict c s ≡ 0) (answer : c.message.kind ≡ Pacs002) where
   passes : (k : ℕ) → runs Pacs002 k ≡ true → fails c s k ≡ false
@@ -134,19 +124,9 @@ module _ (c : Case) (s : List ℕ) (a : Arises c) (none : verdict c s ≡ 0) (an
       (passes 36 refl) (passes 37 refl)
 
   -- and moves what it keeps
-  pub moves-kept : (d : Answered c s) → movement_in c s ≡ kept_in (Of d.place d.transfer)
+  pub moves-kept : (d : Answered c s) → movement_in c s ≡ kept_in (Some (placed d.place d.transfer))
   unfolding movement_in movement_for
   moves-kept d = ap (λ (k : Kind). movement_for k c s) answer ∙ rw (accepted) (ap kept_in d.found)
-
--- the movement of an answer, as the code asks for it
-module _ (c : Case) (s : List ℕ) (answer : c.message.kind ≡ Pacs002) (t : Bool) (asked : t ≡ accepts c.message.reply) where
-  pub movement-kept : t ≡ true → kept_in (due_to c s) ≡ movement_in c s
-  unfolding movement_in movement_for
-  movement-kept e = rw (answer, ← asked, e)
-
-  pub movement-own : t ≡ false → c.movement ≡ movement_in c s
-  unfolding movement_in movement_for
-  movement-own e = rw (answer, ← asked, e)
 
 -- a step that answers a transfer that waits may be the next one, where it moves what that one is to move
 pub answers-due : (x : Step) (s : List ℕ) (k : ℕ) → x.answers ≡ suc k → k < (head_of s).steps → waits s k (step_of s k) ≡ true

@@ -1,6 +1,7 @@
 -- What becomes of a message is what a row of its kind may hold: a transfer ends with 0 or with a check that it can fail by, and a pacs.028 with its
 -- own check or with what has become of the payment that it asks after, which is a fit step of the journal.
 -- Assumes nothing.
+use Rattle.std.specs.Prelude.{Option, Some, None}
 use mathlib.Core.Path.{◌≡◌, refl, sym, ap, subst, ◌∙◌}
 use mathlib.Core.Bool.{Bool, true, false, ◌&&◌, ◌||◌, cond, false≢true}
 use mathlib.Core.List.{List}
@@ -20,12 +21,11 @@ use Rattle.layout.specs.declared.rows.Step.{Step}
 use Rattle.layout.specs.Seat.{head_of, step_of}
 use Rattle.journal.specs.declared.results.Outcome.{Outcome}
 use Rattle.journal.specs.declared.traces.Trace.TheVariants.{Payment, Waiting, Due}
-use Rattle.journal.specs.declared.traces.Earlier.{Earlier}
-use Rattle.journal.specs.declared.traces.Earlier.TheVariants.{Of, None}
+use Rattle.journal.specs.declared.traces.Placed.{Placed}
 use Rattle.journal.specs.Results.{fails_by, ends_as, sent_as, told_as, result_fits}
 use Rattle.journal.specs.Answers.{waits, result_now}
 use Rattle.journal.specs.Steps.{is_kind}
-use Rattle.journal.specs.Traces.{waits_as, leaves, earliest, is_there, is_known, place_fits}
+use Rattle.journal.specs.Traces.{waits_as, leaves, earliest, is_there, is_known, place_fits, placed}
 use Rattle.journal.proofs.ResultLaws.{sent-fits, moved-fits, asked-fits, answer-fits}
 use Rattle.journal.proofs.ToldLaws.{result-told, result-ended}
 use Rattle.journal.proofs.TraceLaws.{earliest-leaves, none-leaves, earliest-place, earliest-within, known-there, known-none-waits}
@@ -97,7 +97,7 @@ end_fits Pacs002 check told shown tells =
     answer-fits 4 o.status o.check refl ∙ transferred-ends Pacs002 check shown
 
 -- the payment that a pacs.028 asks after is a fit step and a pacs.008, so once none waits what has become of it can be told
-module _ (id : Identifier) (s : List ℕ) (fit : open_fits s ≡ true) (k : ℕ) (x : Step) (found : earliest (Payment id) s ≡ Of k x) where
+module _ (id : Identifier) (s : List ℕ) (fit : open_fits s ≡ true) (k : ℕ) (x : Step) (found : earliest (Payment id) s ≡ Some (placed k x)) where
   payment-kind : is_kind 1 (step_of s k) ≡ true
   unfolding leaves kind_number
   payment-kind =
@@ -127,8 +127,8 @@ asked-told c s fit known = go (asked_after c s) refl (known-there id s known)
     id : Identifier
     id = c.message.original.stored
 
-    go : (y : Earlier) → asked_after c s ≡ y → is_there y ≡ true → Told (told_of y s)
-    go (Of k x) found there = payment-told id s fit k x found (known-none-waits id s known)
+    go : (y : Option Placed) → asked_after c s ≡ y → is_there y ≡ true → Told (told_of y s)
+    go (Some e) found there = payment-told id s fit e.place e.step found (known-none-waits id s known)
     go None found there = absurd (false≢true there)
 
 -- what is told of a payment is never PDNG with a check, which is how a pacs.028 ends that fails itself
@@ -137,9 +137,9 @@ pub told-apart : (c : Case) (s : List ℕ) → open_fits s ≡ true → (check :
 unfolding asked_after told_of status_number
 told-apart c s fit check some e = go (asked_after c s) refl e
   where
-    go : (y : Earlier) → asked_after c s ≡ y → told_of y s ≡ record { status = status_number Pdng; check = check } → ⊥
-    go (Of k x) found same =
-        false≢true (sym (payment-ended c.message.original.stored s fit k x found) ∙ ap (λ (o : Outcome). eqb o.status 0) same)
+    go : (y : Option Placed) → asked_after c s ≡ y → told_of y s ≡ record { status = status_number Pdng; check = check } → ⊥
+    go (Some e) found same =
+        false≢true (sym (payment-ended c.message.original.stored s fit e.place e.step found) ∙ ap (λ (o : Outcome). eqb o.status 0) same)
     go None found same = some (ap (λ (o : Outcome). o.check) (sym same))
 
 -- what is asked after stands at a place that a journal has

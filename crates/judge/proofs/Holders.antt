@@ -1,6 +1,7 @@
 -- The two accounts of an owner in a fit directory: they stand at its place, which a seat has. Accounts 2 are odd, and both accounts of a place
 -- halve to it.
 -- Assumes nothing.
+use Rattle.std.specs.Prelude.{ℕ, Option, Some, None}
 use mathlib.Core.Path.{◌≡◌, refl, ap, ◌∙◌}
 use mathlib.Core.Bool.{Bool, true, false, not, ◌&&◌, cond, false≢true}
 use mathlib.Core.List.{List}
@@ -9,14 +10,11 @@ use native.Mathlib.Omega.{arith}
 use lib.Arith.{digits_div, digits_mod}
 use lib.Dec.{eqb, lit<}
 use borrow.Author.Tests.{eq-eqb, ne_eqb}
-use Rattle.shape.specs.declared.value.Value.{Value}
-use Rattle.shape.specs.declared.value.Value.TheVariants.{Of, None}
 use Rattle.table.specs.declared.Kind.{Kind}
 use Rattle.table.specs.declared.Kind.TheVariants.{Pacs008, Camt050}
 use Rattle.slip.specs.Meaning.{kind_number}
 use Rattle.directory.specs.declared.Participant.{Participant}
-use Rattle.directory.specs.declared.Found.{Found}
-use Rattle.directory.specs.declared.Found.TheVariants.{At, Missing}
+use Rattle.directory.specs.declared.Listed.{Listed}
 use Rattle.directory.specs.Directory.{found, found_as, owner_used, is_fit, owner_found, is_owner, bank_found, account_in}
 use Rattle.directory.proofs.Finds.{found-code, fit-few, owner-used}
 use Rattle.seat.specs.Calls.{account_named, account_found}
@@ -29,33 +27,33 @@ apart kind debit credit =
     (eqb (debit % 2) 1 && eqb (credit % 2) 1)
 
 -- an owner with a place, and its two accounts
-pub record Holds (owner : Found) : Type 0 where
+pub record Holds (owner : Option Listed) : Type 0 where
   pub place : ℕ
   pub low : place < 16
-  pub first : account_found owner 1 ≡ Of (2 * place)
-  pub second : account_found owner 2 ≡ Of (2 * place + 1)
+  pub first : account_found owner 1 ≡ Some (2 * place)
+  pub second : account_found owner 2 ≡ Some (2 * place + 1)
 
 -- each owner that is found in a fit directory has them
-pub holds : (dir : List Participant) → is_fit dir ≡ true → (code : Value) → owner_found (found_as dir code) ≡ true → Holds (found_as dir code)
+pub holds : (dir : List Participant) → is_fit dir ≡ true → (code : Option ℕ) → owner_found (found_as dir code) ≡ true → Holds (found_as dir code)
 unfolding account_found account_named
 holds dir fit None o = absurd (false≢true o)
-holds dir fit (Of code) o = go (found dir code) refl o
+holds dir fit (Some code) o = go (found dir code) refl o
   where
-    named : (t : Bool) (n k : ℕ) → t ≡ true → n ≡ k → cond (t && true) (Of n) None ≡ Of k
-    named true n k e same = ap Of same
+    named : (t : Bool) (n k : ℕ) → t ≡ true → n ≡ k → cond (t && true) (Some n) None ≡ Some k
+    named true n k e same = ap Some same
     named false n k e same = absurd (false≢true e)
 
-    go : (f : Found) → found dir code ≡ f → owner_found f ≡ true → Holds f
-    go (At place p) e t = record {
-      place = place;
-      low = omega (arith, (found-code dir code place p e).1, fit-few dir fit);
-      first = named (is_owner p.kind) (2 * place + (1 - 1)) (2 * place) t (omega arith);
-      second = named (is_owner p.kind) (2 * place + (2 - 1)) (2 * place + 1) t refl;
+    go : (f : Option Listed) → found dir code ≡ f → owner_found f ≡ true → Holds f
+    go (Some l) e t = record {
+      place = l.place;
+      low = omega (arith, (found-code dir code l.place l.participant e).1, fit-few dir fit);
+      first = named (is_owner l.participant.kind) (2 * l.place + (1 - 1)) (2 * l.place) t (omega arith);
+      second = named (is_owner l.participant.kind) (2 * l.place + (2 - 1)) (2 * l.place + 1) t refl;
     }
-    go Missing e t = absurd (false≢true t)
+    go None e t = absurd (false≢true t)
 
 -- the owner whose accounts a bank uses has them
-pub bank-holds : (dir : List Participant) → is_fit dir ≡ true → (code : Value) → bank_found (found_as dir code) ≡ true → Holds (owner_used dir code)
+pub bank-holds : (dir : List Participant) → is_fit dir ≡ true → (code : Option ℕ) → bank_found (found_as dir code) ≡ true → Holds (owner_used dir code)
 unfolding owner_used
 bank-holds dir fit code b = holds dir fit (account_in (found_as dir code)) (owner-used dir fit code b)
 

@@ -1,17 +1,16 @@
 -- What is looked up by the codes of a message is what the rules of a case say of it: the owner of an account is found by the code whose accounts the
 -- agent uses, or by the code that is named. Where the directory has no more records than a seat has places, each owner has one.
 -- Assumes nothing.
+use Rattle.std.specs.Prelude.{Some, Ok}
 use mathlib.Core.Path.{◌≡◌, refl, ap, ◌∙◌}
 use mathlib.Core.Bool.{true}
 use mathlib.Core.List.{List}
 use Prim.Native.Nat.{ℕ, ◌≤◌}
 use lib.ListN.{length}
-use Rattle.shape.specs.declared.value.Value.TheVariants.{Of}
 use Rattle.table.specs.declared.Kind.{Kind}
 use Rattle.table.specs.declared.Kind.TheVariants.{Pacs008, Camt050, Pacs028, Pacs002}
 use Rattle.message.specs.declared.Message.{Message}
-use Rattle.message.specs.declared.Answer.{Answer}
-use Rattle.message.specs.declared.Answer.TheVariants.{Good}
+use Rattle.message.specs.Message.{Answer}
 use Rattle.directory.specs.declared.Participant.{Participant}
 use Rattle.directory.specs.Directory.{found_as, owner_used}
 use Rattle.seat.specs.Calls.{place_fits}
@@ -22,7 +21,7 @@ use Rattle.judge.specs.Records.{asked_by, asked_in, owner_code, looked_for}
 use Rattle.judge.proofs.Places.{debit-owner-fits, credit-owner-fits}
 
 debit-found : (dir : List Participant) (m : Message) (kind : Kind)
-    → found_as dir (owner_code kind (found_as dir m.instructing) (Of m.debit.code)) ≡ debit_owner dir m kind
+    → found_as dir (owner_code kind (found_as dir m.instructing) (Some m.debit.code)) ≡ debit_owner dir m kind
 unfolding owner_code debit_owner owner_used
 debit-found dir m Pacs008 = refl
 debit-found dir m Camt050 = refl
@@ -30,7 +29,7 @@ debit-found dir m Pacs028 = refl
 debit-found dir m Pacs002 = refl
 
 credit-found : (dir : List Participant) (m : Message) (kind : Kind)
-    → found_as dir (owner_code kind (found_as dir m.instructed) (Of m.credit.code)) ≡ credit_owner dir m kind
+    → found_as dir (owner_code kind (found_as dir m.instructed) (Some m.credit.code)) ≡ credit_owner dir m kind
 unfolding owner_code credit_owner owner_used
 credit-found dir m Pacs008 = refl
 credit-found dir m Camt050 = refl
@@ -46,7 +45,7 @@ pub looked-with : (dir : List Participant) (sender : ℕ) (m : Message) (asked :
 looked-with dir sender m asked looked e f = f ∙ ap (looked_for dir sender) e ∙ looked-by dir sender m
 
 -- of a sheet that is a message
-pub looked-in : (dir : List Participant) (sender : ℕ) (received : Answer) (m : Message) → received ≡ Good m
+pub looked-in : (dir : List Participant) (sender : ℕ) (received : Answer) (m : Message) → received ≡ Ok m
     → looked_for dir sender (asked_in received) ≡ looked_up dir sender m
 unfolding asked_in
 looked-in dir sender received m e = ap (λ (a : Answer). looked_for dir sender (asked_in a)) e ∙ looked-by dir sender m

@@ -1,6 +1,7 @@
 -- The movement of a transfer that fails by no check: the checks on agents and accounts leave two accounts that stand in the directory, and the
 -- amount is one that a message can have.
 -- Assumes nothing.
+use Rattle.std.specs.Prelude.{ℕ, Option, Some, None}
 use mathlib.Core.Path.{◌≡◌, refl, sym, ap, subst, ◌∙◌}
 use mathlib.Core.Bool.{Bool, true, ◌&&◌, false≢true}
 use mathlib.Core.List.{List}
@@ -8,13 +9,10 @@ use Prim.Native.Nat.{ℕ, ◌+◌, ◌*◌, ◌%◌, ◌≤◌, ◌<◌}
 use native.Mathlib.Omega.{arith}
 use lib.Dec.{leb, ltb, eqb}
 use borrow.Author.Tests.{eqb-true, leb-true, ltb-true}
-use Rattle.shape.specs.declared.value.Value.{Value}
-use Rattle.shape.specs.declared.value.Value.TheVariants.{Of, None}
 use Rattle.shape.proofs.Tests.{and_left, and_right, or_cases}
 use Rattle.table.specs.declared.Kind.{Kind}
 use Rattle.table.specs.declared.Kind.TheVariants.{Pacs008, Camt050, Pacs002}
-use Rattle.directory.specs.declared.Found.{Found}
-use Rattle.directory.specs.declared.Found.TheVariants.{At, Missing}
+use Rattle.directory.specs.declared.Listed.{Listed}
 use Rattle.directory.specs.Directory.{code_most, found, found_as, owner_used, owner_found, bank_found}
 use Rattle.directory.proofs.Finds.{found-low}
 use Rattle.slip.specs.Meaning.{kind_number, status_number}
@@ -22,7 +20,6 @@ use Rattle.slip.specs.declared.Status.TheVariants.{Waits}
 use Rattle.layout.specs.declared.rows.Step.{Step}
 use Rattle.layout.specs.Seat.{accounts}
 use Rattle.journal.specs.declared.traces.Trace.TheVariants as trace
-use Rattle.journal.specs.declared.traces.Earlier.TheVariants as earlier
 use Rattle.journal.specs.Steps.{amount_most, is_waiting, between, is_movement, step_fits}
 use Rattle.journal.proofs.StepLaws.{waiting-movement}
 use Rattle.journal.proofs.AnswerLaws.{waits-row}
@@ -38,13 +35,14 @@ use Rattle.judge.specs.Verdict.{verdict}
 use Rattle.judge.proofs.Holders.{apart, Holds, holds, bank-holds, seconds-apart, out-of-first, out-of-second}
 use Rattle.judge.proofs.Answering.{Closing, due-there, answered, moves-kept}
 use Rattle.judge.proofs.Passed.{source_is, instructed-is, debit-is, credit-is, amount-range, moves-as, sender-bank, from-sender, instructed-bank, sender-owner, credit-own, debit-own, digits-right}
+use Rattle.journal.specs.Traces.{placed}
 
 -- a movement that a step of a kind can have
 pub record Movable (kind : Kind) (m : Movement) : Type 0 where
   pub debit : ℕ
   pub credit : ℕ
-  pub debited : m.debit ≡ Of debit
-  pub credited : m.credit ≡ Of credit
+  pub debited : m.debit ≡ Some debit
+  pub credited : m.credit ≡ Some credit
   pub debit-low : debit < accounts
   pub credit-low : credit < accounts
   pub between : apart kind debit credit ≡ true
@@ -78,13 +76,13 @@ payment-able c s a none same = record {
     from : Holds (owner_used a.dir c.message.instructing)
     from =
         bank-holds a.dir a.fit c.message.instructing
-        (subst (λ (v : Value). bank_found (found_as a.dir v) ≡ true) (sym (from-sender c s none same))
-        (subst (λ (f : Found). bank_found f ≡ true) (source_is c a) (sender-bank c s none same)))
+        (subst (λ (v : Option ℕ). bank_found (found_as a.dir v) ≡ true) (sym (from-sender c s none same))
+        (subst (λ (f : Option Listed). bank_found f ≡ true) (source_is c a) (sender-bank c s none same)))
 
     to : Holds (owner_used a.dir c.message.instructed)
     to =
         bank-holds a.dir a.fit c.message.instructed
-        (subst (λ (f : Found). bank_found f ≡ true) (instructed-is c a) (instructed-bank c s none same))
+        (subst (λ (f : Option Listed). bank_found f ≡ true) (instructed-is c a) (instructed-bank c s none same))
 
     range : (1 ≤ c.movement.amount) × (c.movement.amount ≤ amount_most)
     range = amount-range c a (moves-as c a Pacs008 same)
@@ -113,7 +111,7 @@ transfer-able c s a none same =
     into-by k = eqb c.message.credit.digit k
 
     own : Holds (found a.dir c.sender)
-    own = holds a.dir a.fit (Of c.sender) (subst (λ (f : Found). owner_found f ≡ true) (source_is c a) (sender-owner c s none same))
+    own = holds a.dir a.fit (Some c.sender) (subst (λ (f : Option Listed). owner_found f ≡ true) (source_is c a) (sender-owner c s none same))
 
     out : (k : ℕ) → out-by k ≡ true → c.movement.debit ≡ account_found (found a.dir c.sender) k
     out k e =
@@ -127,7 +125,7 @@ transfer-able c s a none same =
         ∙ ap (λ (n : ℕ). account_found (found a.dir n) c.message.credit.digit) (credit-own c s none same)
         ∙ ap (λ (n : ℕ). account_found (found a.dir c.sender) n) (eqb-true c.message.credit.digit k e)
 
-    moving : (i j : ℕ) → c.movement.debit ≡ Of i → c.movement.credit ≡ Of j → i < accounts → j < accounts → apart Camt050 i j ≡ true
+    moving : (i j : ℕ) → c.movement.debit ≡ Some i → c.movement.credit ≡ Some j → i < accounts → j < accounts → apart Camt050 i j ≡ true
         → Movable Camt050 c.movement
     moving i j debited credited debit-low credit-low between =
         let range : (1 ≤ c.movement.amount) × (c.movement.amount ≤ amount_most) = amount-range c a (moves-as c a Camt050 same) in
@@ -147,7 +145,7 @@ pub transfer-moves : (c : Case) (s : List ℕ) → Arises c → verdict c s ≡ 
 transfer-moves c s a none same = subst (Movable Camt050) (sym (own-transfer c s same)) (transfer-able c s a none same)
 
 -- what a fit transfer that waits is to move, an answer can move
-kept-able : (x : Step) (k : ℕ) → step_fits x ≡ true → is_waiting x ≡ true → Movable Pacs002 (kept_in (earlier.Of k x))
+kept-able : (x : Step) (k : ℕ) → step_fits x ≡ true → is_waiting x ≡ true → Movable Pacs002 (kept_in (Some (placed k x)))
 unfolding kept_in is_movement is_waiting between kind_number
 kept-able x k fit waiting =
     let least = leb 1 x.amount in
@@ -187,12 +185,12 @@ answer-moves c s a fit none same =
 -- the bank that is to answer a pacs.008 has a code
 pub receiver-code : (c : Case) (s : List ℕ) → Arises c → verdict c s ≡ 0 → c.message.kind ≡ Pacs008 → or_zero c.message.instructed ≤ code_most
 unfolding or_zero
-receiver-code c s a none same = go c.message.instructed (subst (λ (f : Found). bank_found f ≡ true) (instructed-is c a) (instructed-bank c s none same))
+receiver-code c s a none same = go c.message.instructed (subst (λ (f : Option Listed). bank_found f ≡ true) (instructed-is c a) (instructed-bank c s none same))
   where
-    listed : (code : ℕ) (f : Found) → found a.dir code ≡ f → bank_found f ≡ true → code ≤ code_most
-    listed code (At k p) e b = found-low a.dir a.fit code k p e
-    listed code Missing e b = absurd (false≢true b)
+    listed : (code : ℕ) (f : Option Listed) → found a.dir code ≡ f → bank_found f ≡ true → code ≤ code_most
+    listed code (Some l) e b = found-low a.dir a.fit code l.place l.participant e
+    listed code None e b = absurd (false≢true b)
 
-    go : (v : Value) → bank_found (found_as a.dir v) ≡ true → or_zero v ≤ code_most
-    go (Of code) b = listed code (found a.dir code) refl b
+    go : (v : Option ℕ) → bank_found (found_as a.dir v) ≡ true → or_zero v ≤ code_most
+    go (Some code) b = listed code (found a.dir code) refl b
     go None b = omega arith

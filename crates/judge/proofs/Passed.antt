@@ -1,6 +1,7 @@
 -- What a case that arises shows: its records are those of one directory, its amount is in range, and each check of its order that does not fail
 -- leaves what it asks for.
 -- Assumes nothing.
+use Rattle.std.specs.Prelude.{ℕ, Option, Some, None}
 use mathlib.Core.Path.{◌≡◌, refl, sym, ap, subst, ◌∙◌}
 use mathlib.Core.Bool.{true, false, not, ◌&&◌, ◌||◌, false≢true}
 use mathlib.Core.List.{List}
@@ -8,8 +9,6 @@ use Prim.Native.Nat.{ℕ, ◌≤◌, ◌<◌}
 use native.Mathlib.Omega.{arith}
 use lib.Dec.{eqb}
 use borrow.Author.Tests.{eqb-true, lt-ltb, not-false}
-use Rattle.shape.specs.declared.value.Value.{Value}
-use Rattle.shape.specs.declared.value.Value.TheVariants.{Of, None}
 use Rattle.shape.proofs.Tests.{and_right}
 use Rattle.table.specs.declared.Kind.{Kind}
 use Rattle.table.specs.declared.Kind.TheVariants.{Pacs008, Camt050}
@@ -18,8 +17,7 @@ use Rattle.message.specs.Good.{is_given}
 use Rattle.message.proofs.Shaped.{IsAmount, Moves, shaped}
 use Rattle.directory.specs.declared.Kind.{Kind as Sort}
 use Rattle.directory.specs.declared.Kind.TheVariants as sort
-use Rattle.directory.specs.declared.Found.{Found}
-use Rattle.directory.specs.declared.Found.TheVariants.{At, Missing}
+use Rattle.directory.specs.declared.Listed.{Listed}
 use Rattle.directory.specs.Directory.{found, found_as, is_listed, is_instant, owner_found, is_owner, in_sep, under_sep, head_named, head_in, is_bank, bank_found}
 use Rattle.layout.specs.declared.rows.Account.{Account}
 use Rattle.layout.specs.Seat.{accounts, account_of}
@@ -28,8 +26,6 @@ use Rattle.journal.specs.Limits.{available_below}
 use Rattle.journal.proofs.Above.{available-covers}
 use Rattle.seat.specs.Calls.{account_found}
 use Rattle.judge.specs.declared.case.Case.{Case}
-use Rattle.judge.specs.declared.money.Holding.{Holding}
-use Rattle.judge.specs.declared.money.Holding.TheVariants as holding
 use Rattle.judge.specs.Values.{agree, or_zero}
 use Rattle.judge.specs.Case.{Arises, debit_owner, credit_owner, account_on, movement_of, case_of}
 use Rattle.judge.specs.Rows.{sender_unlisted, sender_indirect, sender_no_owner, not_from_sender, creditor_anothers, debtor_anothers}
@@ -38,9 +34,9 @@ use Rattle.judge.specs.Verdict.{fails, rows_of, verdict}
 use Rattle.judge.proofs.Verdicts.{none-fails}
 
 -- a value that agrees with a number is that number
-agree-is : (v : Value) (n : ℕ) → agree v (Of n) ≡ true → v ≡ Of n
+agree-is : (v : Option ℕ) (n : ℕ) → agree v (Some n) ≡ true → v ≡ Some n
 unfolding agree
-agree-is (Of a) n e = ap Of (eqb-true a n e)
+agree-is (Some a) n e = ap Some (eqb-true a n e)
 agree-is None n e = absurd (false≢true e)
 
 -- one who is listed under SEP and is no indirect branch is a bank; one who is listed and not "no owner" is an owner
@@ -50,13 +46,13 @@ sort-bank (sort.Direct head) listed direct = refl
 sort-bank (sort.Indirect head) listed direct = absurd (false≢true (sym direct))
 sort-bank (sort.Provider bank) listed direct = absurd (false≢true listed)
 
-sep-bank : (f : Found) → under_sep f ≡ true → is_given (head_in f) ≡ false → bank_found f ≡ true
-sep-bank (At place p) listed direct = sort-bank p.kind listed direct
-sep-bank Missing listed direct = absurd (false≢true listed)
+sep-bank : (f : Option Listed) → under_sep f ≡ true → is_given (head_in f) ≡ false → bank_found f ≡ true
+sep-bank (Some l) listed direct = sort-bank l.participant.kind listed direct
+sep-bank None listed direct = absurd (false≢true listed)
 
-sep-owner : (f : Found) → under_sep f ≡ true → (is_listed f && not (owner_found f)) ≡ false → owner_found f ≡ true
-sep-owner (At place p) listed owner = not-false (is_owner p.kind) owner
-sep-owner Missing listed owner = absurd (false≢true listed)
+sep-owner : (f : Option Listed) → under_sep f ≡ true → (is_listed f && not (owner_found f)) ≡ false → owner_found f ≡ true
+sep-owner (Some l) listed owner = not-false (is_owner l.participant.kind) owner
+sep-owner None listed owner = absurd (false≢true listed)
 
 -- what the directory says in a case that arises
 module _ (c : Case) (a : Arises c) where
@@ -110,11 +106,11 @@ module _ (c : Case) (s : List ℕ) (none : verdict c s ≡ 0) where
     unfolding fails rows_of sender_indirect runs order_of
     sender-bank = sep-bank c.source (listed Pacs008 same refl) (passed Pacs008 same 2 refl)
 
-    pub from-sender : c.message.instructing ≡ Of c.sender
+    pub from-sender : c.message.instructing ≡ Some c.sender
     unfolding fails rows_of not_from_sender runs order_of
     from-sender =
         agree-is c.message.instructing c.sender
-        (not-false (agree c.message.instructing (Of c.sender)) (passed Pacs008 same 8 refl))
+        (not-false (agree c.message.instructing (Some c.sender)) (passed Pacs008 same 8 refl))
 
     pub instructed-bank : bank_found c.instructed ≡ true
     unfolding fails rows_of instructed_no_bank runs order_of
@@ -149,12 +145,12 @@ module _ (c : Case) (s : List ℕ) (none : verdict c s ≡ 0) where
         (passed Camt050 same 15 refl)
 
   -- the debited account covers the amount
-  pub money-there : (kind : Kind) → c.message.kind ≡ kind → runs kind 22 ≡ true → (i : ℕ) → (movement_in c s).debit ≡ Of i → i < accounts
+  pub money-there : (kind : Kind) → c.message.kind ≡ kind → runs kind 22 ≡ true → (i : ℕ) → (movement_in c s).debit ≡ Some i → i < accounts
       → (movement_in c s).amount ≤ (account_of s i).balance
   unfolding fails rows_of money_short shows account_at
   money-there kind same r i e low =
       available-covers (account_of s i) (movement_in c s).amount
-      (subst (λ (h : Holding). shows (λ (x : Account). available_below x (movement_in c s).amount) h ≡ false) held (passed kind same 22 r))
+      (subst (λ (h : Option Account). shows (λ (x : Account). available_below x (movement_in c s).amount) h ≡ false) held (passed kind same 22 r))
     where
-      held : account_at (movement_in c s).debit s ≡ holding.Of (account_of s i)
+      held : account_at (movement_in c s).debit s ≡ Some (account_of s i)
       held = rw (e, lt-ltb i accounts low)

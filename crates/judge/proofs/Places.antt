@@ -1,6 +1,7 @@
 -- A directory of at most 16 records has each of them at a place that a seat has, so whatever is found in it fits; and what was gathered of a
 -- fit directory is at most 16 records, since no more were counted.
 -- Assumes nothing.
+use Rattle.std.specs.Prelude.{ℕ, Option, Some, None}
 use mathlib.Core.Path.{◌≡◌, refl}
 use mathlib.Core.Bool.{true}
 use mathlib.Core.List.{List}
@@ -8,14 +9,11 @@ use Prim.Native.Nat.{ℕ, ◌≤◌, ◌<◌}
 use native.Mathlib.Omega.{arith}
 use lib.ListN.{length, length-take}
 use borrow.Author.Tests.{lt-ltb}
-use Rattle.shape.specs.declared.value.Value.{Value}
-use Rattle.shape.specs.declared.value.Value.TheVariants.{Of, None}
 use Rattle.table.specs.declared.Kind.{Kind}
 use Rattle.table.specs.declared.Kind.TheVariants.{Pacs008, Camt050, Pacs028, Pacs002}
 use Rattle.directory.specs.declared.Participant.{Participant}
 use Rattle.directory.specs.declared.Gathered.{Gathered}
-use Rattle.directory.specs.declared.Found.{Found}
-use Rattle.directory.specs.declared.Found.TheVariants.{At, Missing}
+use Rattle.directory.specs.declared.Listed.{Listed}
 use Rattle.directory.specs.Directory.{found, found_as, account_in, owner_used}
 use Rattle.directory.specs.Gathering.{records_in, fit_gathered}
 use Rattle.directory.proofs.Finds.{found-code}
@@ -27,15 +25,15 @@ use Rattle.judge.specs.Case.{debit_owner, credit_owner}
 pub found-fits : (dir : List Participant) (code : ℕ) → length dir ≤ 16 → place_fits (found dir code) ≡ true
 found-fits dir code few = by_place (found dir code) refl
   where
-    by_place : (f : Found) → found dir code ≡ f → place_fits f ≡ true
-    by_place (At k p) e = let within : k < length dir = (found-code dir code k p e).1 in lt-ltb k 16 (omega arith)
-    by_place Missing e = refl
+    by_place : (f : Option Listed) → found dir code ≡ f → place_fits f ≡ true
+    by_place (Some l) e = let within : l.place < length dir = (found-code dir code l.place l.participant e).1 in lt-ltb l.place 16 (omega arith)
+    by_place None e = refl
 
-pub found-as-fits : (dir : List Participant) (code : Value) → length dir ≤ 16 → place_fits (found_as dir code) ≡ true
-found-as-fits dir (Of code) few = found-fits dir code few
+pub found-as-fits : (dir : List Participant) (code : Option ℕ) → length dir ≤ 16 → place_fits (found_as dir code) ≡ true
+found-as-fits dir (Some code) few = found-fits dir code few
 found-as-fits dir None few = refl
 
-pub owner-fits : (dir : List Participant) (code : Value) → length dir ≤ 16 → place_fits (owner_used dir code) ≡ true
+pub owner-fits : (dir : List Participant) (code : Option ℕ) → length dir ≤ 16 → place_fits (owner_used dir code) ≡ true
 unfolding owner_used
 owner-fits dir code few = found-as-fits dir (account_in (found_as dir code)) few
 

@@ -2,6 +2,7 @@
 -- movement stands where money is moved or a transfer waits, which is where no check fails, so that it is one that a step can have and, where it is
 -- moved, is covered; and what it answers is a transfer that waits.
 -- Assumes nothing.
+use Rattle.std.specs.Prelude.{ℕ, Option, Some}
 use mathlib.Core.Path.{◌≡◌, refl, sym, ap, subst, ◌∙◌}
 use mathlib.Core.Bool.{Bool, true, false, not, ◌&&◌, ◌||◌, cond, false≢true}
 use mathlib.Core.List.{List}
@@ -12,7 +13,6 @@ use lib.ListN.{length}
 use borrow.Author.Tests.{le-leb, lt-ltb, eq-eqb, eqb-true}
 use Rattle.shape.specs.Dates.{is_time}
 use Rattle.shape.specs.Stored.{same_identifier}
-use Rattle.shape.specs.declared.value.Value.{Value}
 use Rattle.shape.specs.declared.stored.Identifier.{Identifier}
 use Rattle.shape.specs.declared.stored.Uetr.{Uetr}
 use Rattle.shape.proofs.Tests.{or_right, or_cases}
@@ -27,7 +27,6 @@ use Rattle.layout.specs.declared.rows.Step.{Step}
 use Rattle.layout.specs.Seat.{accounts, head_of, account_of, step_of, seat_long}
 use Rattle.journal.specs.declared.results.Outcome.{Outcome}
 use Rattle.journal.specs.Results.{result_fits}
-use Rattle.journal.specs.declared.traces.Earlier.TheVariants.{Of}
 use Rattle.journal.specs.Steps.{set_kind, amount_most, no_identifier, same_settings, is_stored, is_stored_uetr, no_uetr, no_movement, no_set}
 use Rattle.journal.specs.Steps.{
   set_fits,
@@ -74,6 +73,7 @@ use Rattle.judge.proofs.Passed.{money-there}
 use Rattle.judge.proofs.Answering.{due-there, Answered, answered, moves-kept, answers-due, answers-none}
 use Rattle.judge.proofs.Movements.{Movable, payment-moves, transfer-moves, answer-moves, receiver-code}
 use Rattle.judge.proofs.Ends.{outcome_fits, carried_none, waits-none}
+use Rattle.journal.specs.Traces.{placed}
 
 -- the parts of a good message, as a step stores them
 identifier-fits : (x : Identifier) → IsIdentifier x → is_stored x ≡ true
@@ -82,9 +82,9 @@ identifier-fits x is = subst (λ (y : Identifier). is_stored y ≡ true) (sym is
 uetr-stored : (x : Uetr) → IsUetr x → is_stored_uetr x ≡ true
 uetr-stored x is = subst (λ (y : Uetr). is_stored_uetr y ≡ true) (sym is.stored) (uetr-fits is.text is.good)
 
-time-fits : (v : Value) → IsTime v → is_time (or_zero v) ≡ true
+time-fits : (v : Option ℕ) → IsTime v → is_time (or_zero v) ≡ true
 unfolding or_zero
-time-fits v is = subst (λ (w : Value). is_time (or_zero w) ≡ true) (sym is.given) is.real
+time-fits v is = subst (λ (w : Option ℕ). is_time (or_zero w) ≡ true) (sym is.given) is.real
 
 uetr-stands : (kind : Kind) (x : Uetr) → HasUetr kind x → cond (eqb (kind_number kind) (kind_number Pacs002)) (no_uetr x) (is_stored_uetr x) ≡ true
 unfolding kind_number no_uetr
@@ -249,7 +249,7 @@ module _ (c : Case) (m : Movement) (n : ℕ) (o : Outcome) where
         (sym made-moves) (row-covered (carried kind o) (awaits kind o) covers))
 
     -- it moves what a transfer keeps, where that is its movement
-    made-same : (y : Step) (k : ℕ) → m ≡ kept_in (Of k y) → moves made ≡ true → same_movement made y ≡ true
+    made-same : (y : Step) (k : ℕ) → m ≡ kept_in (Some (placed k y)) → moves made ≡ true → same_movement made y ≡ true
     unfolding same_movement step_made kept_in or_zero
     made-same y k same moving =
         rw (sym made-moves ∙ moving, same, eq-eqb y.debit y.debit refl, eq-eqb y.credit y.credit refl, eq-eqb y.amount y.amount refl)
@@ -271,7 +271,7 @@ module _ (c : Case) (s : List ℕ) (a : Arises c) (fit : open_fits s ≡ true) (
       money : (k : Kind) → c.message.kind ≡ k → runs k 22 ≡ true → Movable k (movement_in c s)
           → (movement_in c s).amount ≤ (account_of s (or_zero (movement_in c s).debit)).balance
       money k same r m =
-          subst (λ (v : Value). (movement_in c s).amount ≤ (account_of s (or_zero v)).balance) (sym m.debited)
+          subst (λ (v : Option ℕ). (movement_in c s).amount ≤ (account_of s (or_zero v)).balance) (sym m.debited)
           (money-there c s none k same r m.debit m.debited m.debit-low)
 
       go : (k : Kind) → c.message.kind ≡ k → carried k o ≡ true → (movement_in c s).amount ≤ (account_of s (or_zero (movement_in c s).debit)).balance
@@ -351,7 +351,7 @@ judged-answerable c s a kind same = go kind same
         let o : Outcome = outcome c s in
         let done : carried c.message.kind o ≡ true = sym (made-moves c (movement_in c s) closed o) ∙ m in
         made-same c (movement_in c s) closed o s (step_of s d.place) d.place
-        (moves-kept c s a (carried_none c s done) e d ∙ ap (λ (y : Step). kept_in (Of d.place y)) d.there) m
+        (moves-kept c s a (carried_none c s done) e d ∙ ap (λ (y : Step). kept_in (Some (placed d.place y))) d.there) m
       where
         closed : ℕ
         closed = closed_by c.message.kind (verdict c s) (due_to c s)

@@ -1,14 +1,12 @@
 -- What the checks look at beside the seat: the message, its sender, the call's date, and what the directory says of the sender, of the agents that
 -- the message names and of the accounts that it moves money between. Document 01, "The checks".
-use Rattle.std.specs.Prelude.{true, List, ◌≡◌, ℕ, ◌≤◌}
+use Rattle.std.specs.Prelude.{true, List, ◌≡◌, ℕ, ◌≤◌, Option, None, Ok}
 use Rattle.table.specs.declared.Kind.{Kind}
 use Rattle.table.specs.declared.Kind.TheVariants.{Pacs008, Camt050, Pacs028, Pacs002}
 use Rattle.message.specs.declared.Message.{Message}
-use Rattle.message.specs.declared.Answer.TheVariants.{Good}
 use Rattle.message.specs.Received.{received_of}
 use Rattle.directory.specs.declared.Participant.{Participant}
-use Rattle.directory.specs.declared.Found.{Found}
-use Rattle.directory.specs.declared.Found.TheVariants.{Missing}
+use Rattle.directory.specs.declared.Listed.{Listed}
 use Rattle.directory.specs.Directory.{code_most, found, found_as, owner_used, is_fit}
 use Rattle.seat.specs.Calls.{account_found}
 use Rattle.judge.specs.declared.case.Case.{Case}
@@ -18,17 +16,17 @@ use Rattle.judge.specs.Values.{or_zero}
 
 -- whose accounts a message moves money between: camt.050 names them by code; a pacs.008's are those of InstgAgt and of InstdAgt, a direct
 -- branch's its head's. A pacs.028 moves none, and a pacs.002 goes by what the transfer keeps that it answers, whichever directory comes
-unfoldable pub debit_owner : List Participant → Message → Kind → Found
+unfoldable pub debit_owner : List Participant → Message → Kind → Option Listed
 debit_owner dir m Pacs008 = owner_used dir m.instructing
 debit_owner dir m Camt050 = found dir m.debit.code
-debit_owner dir m Pacs028 = Missing
-debit_owner dir m Pacs002 = Missing
+debit_owner dir m Pacs028 = None
+debit_owner dir m Pacs002 = None
 
-unfoldable pub credit_owner : List Participant → Message → Kind → Found
+unfoldable pub credit_owner : List Participant → Message → Kind → Option Listed
 credit_owner dir m Pacs008 = owner_used dir m.instructed
 credit_owner dir m Camt050 = found dir m.credit.code
-credit_owner dir m Pacs028 = Missing
-credit_owner dir m Pacs002 = Missing
+credit_owner dir m Pacs028 = None
+credit_owner dir m Pacs002 = None
 
 -- which of an owner's two accounts: a camt.050 says it by a digit, a pacs.008 means account 2
 unfoldable pub account_on : Kind → ℕ → ℕ
@@ -38,7 +36,7 @@ account_on Pacs028 digit = 0
 account_on Pacs002 digit = 0
 
 -- the debited and the credited account by their numbers in the seat, each of which may be missing, and the amount
-unfoldable pub movement_of : Message → Found → Found → Movement
+unfoldable pub movement_of : Message → Option Listed → Option Listed → Movement
 movement_of m from to = record {
   debit = account_found from (account_on m.kind m.debit.digit);
   credit = account_found to (account_on m.kind m.credit.digit);
@@ -76,7 +74,7 @@ case_of dir sender today m = case_from (looked_up dir sender m) sender today m
 pub record Arises (c : Case) : Type 0 where
   pub sheet : List ℕ
   pub dir : List Participant
-  pub good : (received_of sheet).answer ≡ Good c.message
+  pub good : (received_of sheet).answer ≡ Ok c.message
   pub fit : is_fit dir ≡ true
   pub code : c.sender ≤ code_most
   pub looked : c ≡ case_of dir c.sender c.today c.message

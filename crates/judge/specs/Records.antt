@@ -1,15 +1,12 @@
 -- What a message asks of the directory: the codes of its agents and of the owners of the accounts that it moves money between, and what is found of
 -- them. That all this together is what `Case.antt` says of a message is proved in `proofs/Lookups.antt`.
-use Rattle.std.specs.Prelude.{List, ℕ}
-use Rattle.shape.specs.declared.value.Value.{Value}
-use Rattle.shape.specs.declared.value.Value.TheVariants.{Of, None}
+use Rattle.std.specs.Prelude.{List, ℕ, Option, Some, None, Ok, Err}
 use Rattle.table.specs.declared.Kind.{Kind}
 use Rattle.table.specs.declared.Kind.TheVariants.{Pacs008, Camt050, Pacs028, Pacs002}
 use Rattle.message.specs.declared.Message.{Message}
-use Rattle.message.specs.declared.Answer.{Answer}
-use Rattle.message.specs.declared.Answer.TheVariants.{IllFormed, BadField, Good}
+use Rattle.message.specs.Message.{Answer}
 use Rattle.directory.specs.declared.Participant.{Participant}
-use Rattle.directory.specs.declared.Found.{Found}
+use Rattle.directory.specs.declared.Listed.{Listed}
 use Rattle.directory.specs.Directory.{found, found_as, account_in}
 use Rattle.judge.specs.declared.case.Looked.{Looked}
 use Rattle.judge.specs.declared.records.Asked.{Asked}
@@ -22,8 +19,8 @@ asked_by m = record {
   instructed = m.instructed;
   debtor = m.debtor.code;
   creditor = m.creditor.code;
-  debit = Of m.debit.code;
-  credit = Of m.credit.code;
+  debit = Some m.debit.code;
+  credit = Some m.credit.code;
 }
 
 -- a sheet that is no message asks nothing
@@ -39,22 +36,21 @@ nothing_asked = record {
 }
 
 unfoldable pub asked_in : Answer → Asked
-asked_in (Good m) = asked_by m
-asked_in (IllFormed place) = nothing_asked
-asked_in (BadField number) = nothing_asked
+asked_in (Ok m) = asked_by m
+asked_in (Err refusal) = nothing_asked
 
 -- the code of the owner of an account: a pacs.008 means the account that its agent uses, a camt.050 names the code, the others have none
-unfoldable pub owner_code : Kind → Found → Value → Value
+unfoldable pub owner_code : Kind → Option Listed → Option ℕ → Option ℕ
 owner_code Pacs008 agent named = account_in agent
 owner_code Camt050 agent named = named
 owner_code Pacs028 agent named = None
 owner_code Pacs002 agent named = None
 
 -- of the debited account, by InstgAgt; of the credited one, by InstdAgt
-abbrev pub debit_code : Asked → Found → Value
+abbrev pub debit_code : Asked → Option Listed → Option ℕ
 debit_code asked instructing = owner_code asked.kind instructing asked.debit
 
-abbrev pub credit_code : Asked → Found → Value
+abbrev pub credit_code : Asked → Option Listed → Option ℕ
 credit_code asked instructed = owner_code asked.kind instructed asked.credit
 
 -- all that is looked up for a sender

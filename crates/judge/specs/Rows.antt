@@ -1,17 +1,13 @@
 -- The 37 rows of the check table, in its order and words: document 01, "The checks", and request 9 of document 02. Each says when its check fails,
 -- of any case and any seat, whatever the other rows say. A check on a missing record, account or step fails only where its row says so.
 -- Who an agent is goes through `directory` alone, what stands in earlier steps and accounts through `journal` alone.
-use Rattle.std.specs.Prelude.{Bool, true, false, not, ◌&&◌, ◌||◌, cond, List, ℕ, ltb, eqb}
+use Rattle.std.specs.Prelude.{Bool, true, false, not, ◌&&◌, ◌||◌, cond, List, ℕ, ltb, eqb, Option, Some, None}
 use Rattle.shape.specs.Text.{bytes}
 use Rattle.shape.specs.Dates.{date_of, day_before}
 use Rattle.shape.specs.Fields.{three_bytes}
 use Rattle.shape.specs.Stored.{same_identifier, same_uetr}
-use Rattle.shape.specs.declared.value.Value.{Value}
-use Rattle.shape.specs.declared.value.Value.TheVariants.{Of, None}
 use Rattle.shape.specs.declared.field.System.{System}
 use Rattle.shape.specs.declared.field.System.TheVariants.{Sep, Asp, Neither}
-use Rattle.remainder.specs.declared.Mod97.{Mod97}
-use Rattle.remainder.specs.declared.Mod97.TheVariants as left
 use Rattle.directory.specs.Directory.{is_listed, is_instant, owner_found, bank_found, under_sep, under_asp, head_in, bank_in}
 use Rattle.layout.specs.declared.rows.Account.{Account}
 use Rattle.layout.specs.Seat.{accounts, account_of}
@@ -19,17 +15,14 @@ use Rattle.table.specs.declared.Kind.{Kind}
 use Rattle.table.specs.declared.Kind.TheVariants.{Pacs008, Camt050, Pacs028, Pacs002}
 use Rattle.message.specs.declared.Message.{Message}
 use Rattle.message.specs.declared.Reply.{Reply}
-use Rattle.message.specs.declared.Reply.TheVariants.{NoReply, Accepts, Declines, Refuses}
+use Rattle.message.specs.declared.Reply.TheVariants.{Accepts, Declines, Refuses}
 use Rattle.message.specs.Good.{is_given}
 use Rattle.journal.specs.declared.traces.Trace.TheVariants as trace
-use Rattle.journal.specs.declared.traces.Earlier.{Earlier}
-use Rattle.journal.specs.declared.traces.Earlier.TheVariants as earlier
+use Rattle.journal.specs.declared.traces.Placed.{Placed}
 use Rattle.journal.specs.Traces.{earliest, is_there, is_known}
 use Rattle.journal.specs.Limits.{blocked_out, blocked_into, available_below, turnover_above, turnover_shut}
 use Rattle.judge.specs.declared.case.Case.{Case}
 use Rattle.judge.specs.declared.case.Movement.{Movement}
-use Rattle.judge.specs.declared.money.Holding.{Holding}
-use Rattle.judge.specs.declared.money.Holding.TheVariants as holding
 use Rattle.judge.specs.Values.{agree}
 
 -- 1, 2: sender not listed or a provider; indirect
@@ -48,41 +41,41 @@ sender_no_owner c = is_listed c.source && not (owner_found c.source)
 
 -- 5: MsgId not good or not the sender's code
 unfoldable pub identifier_bad : Case → Bool
-identifier_bad c = not (agree c.message.id.code (Of c.sender))
+identifier_bad c = not (agree c.message.id.code (Some c.sender))
 
 -- 6: MsgId in an earlier step
 unfoldable pub identifier_repeated : Case → List ℕ → Bool
 identifier_repeated c s = is_there (earliest (trace.Message c.message.id.stored) s)
 
 -- 7: created neither on the call's date nor the day before
-unfoldable pub created_on : Value → Value → Bool
-created_on (Of time) day = agree (Of (date_of time)) day
+unfoldable pub created_on : Option ℕ → Option ℕ → Bool
+created_on (Some time) day = agree (Some (date_of time)) day
 created_on None day = false
 
 unfoldable pub created_elsewhen : Case → Bool
-created_elsewhen c = not (created_on c.message.created (Of c.today) || created_on c.message.created (day_before c.today))
+created_elsewhen c = not (created_on c.message.created (Some c.today) || created_on c.message.created (day_before c.today))
 
 -- 8: InstgAgt is not the sender
 unfoldable pub not_from_sender : Case → Bool
-not_from_sender c = not (agree c.message.instructing (Of c.sender))
+not_from_sender c = not (agree c.message.instructing (Some c.sender))
 
 -- 9: OrgnlMsgId not good or not the sender's code
 unfoldable pub original_bad : Case → Bool
-original_bad c = not (agree c.message.original.code (Of c.sender))
+original_bad c = not (agree c.message.original.code (Some c.sender))
 
 -- 10: no pacs.008 step has it, or one that waits has it
 unfoldable pub original_unknown : Case → List ℕ → Bool
 original_unknown c s = not (is_known c.message.original.stored s)
 
 -- the payment that a pacs.028 asks after: the first pacs.008 step that has OrgnlMsgId
-unfoldable pub asked_after : Case → List ℕ → Earlier
+unfoldable pub asked_after : Case → List ℕ → Option Placed
 asked_after c s = earliest (trace.Payment c.message.original.stored) s
 
 -- 11: the first such step differs in time, UETR or EndToEndId
-unfoldable pub differs : Message → Earlier → Bool
-differs m (earlier.Of k x) =
-    not (agree m.originated (Of x.created) && same_uetr x.uetr m.uetr && same_identifier x.reference m.reference)
-differs m earlier.None = false
+unfoldable pub differs : Message → Option Placed → Bool
+differs m (Some e) =
+    not (agree m.originated (Some e.step.created) && same_uetr e.step.uetr m.uetr && same_identifier e.step.reference m.reference)
+differs m None = false
 
 unfoldable pub original_differs : Case → List ℕ → Bool
 original_differs c s = differs c.message (asked_after c s)
@@ -107,7 +100,7 @@ digits_wrong c =
 -- 16: amount's currency is not both accounts'
 unfoldable pub amount_foreign : Case → Bool
 amount_foreign c =
-    not (agree c.message.currency (Of c.message.debit.currency) && agree c.message.currency (Of c.message.credit.currency))
+    not (agree c.message.currency (Some c.message.debit.currency) && agree c.message.currency (Some c.message.credit.currency))
 
 -- 17: UETR in an earlier pacs.008 or camt.050 step, rejected ones too
 unfoldable pub uetr_repeated : Case → List ℕ → Bool
@@ -124,20 +117,20 @@ unfoldable pub debtor_not_hryvnia : Case → Bool
 debtor_not_hryvnia c = not (eqb c.message.debit.currency hryvnia)
 
 -- the transfer that a pacs.002 answers: the first that waits for this sender's answer and has OrgnlMsgId
-unfoldable pub due_to : Case → List ℕ → Earlier
+unfoldable pub due_to : Case → List ℕ → Option Placed
 due_to c s = earliest (trace.Due c.message.original.stored c.sender) s
 
 -- GrpSts is ACCP
-unfoldable pub accepts : Reply → Bool
-accepts NoReply = false
-accepts Accepts = true
-accepts Declines = false
-accepts Refuses = false
+unfoldable pub accepts : Option Reply → Bool
+accepts None = false
+accepts (Some Accepts) = true
+accepts (Some Declines) = false
+accepts (Some Refuses) = false
 
 -- what a waiting transfer is to move: its amount between the accounts that it keeps
-unfoldable pub kept_in : Earlier → Movement
-kept_in (earlier.Of k x) = record { debit = Of x.debit; credit = Of x.credit; amount = x.amount }
-kept_in earlier.None = record { debit = None; credit = None; amount = 0 }
+unfoldable pub kept_in : Option Placed → Movement
+kept_in (Some e) = record { debit = Some e.step.debit; credit = Some e.step.credit; amount = e.step.amount }
+kept_in None = record { debit = None; credit = None; amount = 0 }
 
 -- the movement that a message is about in a seat, which 20 to 24 run on: its own by the directory; of an accepting answer that of the transfer
 unfoldable pub movement_for : Kind → Case → List ℕ → Movement
@@ -151,13 +144,13 @@ movement_in c s = movement_for c.message.kind c s
 
 -- 20 to 24 are over the accounts of a seat, a debited one or none, a credited one or none, and an amount: what the account shows, and nothing
 -- where there is none
-unfoldable pub account_at : Value → List ℕ → Holding
-account_at (Of i) s = cond (ltb i accounts) (holding.Of (account_of s i)) holding.None
-account_at None s = holding.None
+unfoldable pub account_at : Option ℕ → List ℕ → Option Account
+account_at (Some i) s = cond (ltb i accounts) (Some (account_of s i)) None
+account_at None s = None
 
-unfoldable pub shows : (Account → Bool) → Holding → Bool
-shows test (holding.Of a) = test a
-shows test holding.None = false
+unfoldable pub shows : (Account → Bool) → Option Account → Bool
+shows test (Some a) = test a
+shows test None = false
 
 -- 20, 21: debtor account blocked outgoing, creditor incoming
 unfoldable pub debit_blocked : Movement → List ℕ → Bool
@@ -231,9 +224,9 @@ instructing_not_serving c =
     not (is_given c.message.previous) && (under_asp c.debtor && not (agree (bank_in c.debtor) c.message.instructing))
 
 -- 34: creditor IBAN's MOD 97-10 remainder is not 1
-unfoldable pub is_one : Mod97 → Bool
-is_one (left.Of n) = eqb n 1
-is_one left.NoIban = false
+unfoldable pub is_one : Option ℕ → Bool
+is_one (Some n) = eqb n 1
+is_one None = false
 
 unfoldable pub iban_wrong : Case → Bool
 iban_wrong c = not (is_one c.message.iban)
@@ -243,21 +236,21 @@ unfoldable pub nothing_due : Case → List ℕ → Bool
 nothing_due c s = not (is_there (due_to c s))
 
 -- 36: GrpSts is RJCT without TxSts, a technical refusal
-unfoldable pub declines : Reply → Bool
-declines NoReply = false
-declines Accepts = false
-declines Declines = true
-declines Refuses = false
+unfoldable pub declines : Option Reply → Bool
+declines None = false
+declines (Some Accepts) = false
+declines (Some Declines) = true
+declines (Some Refuses) = false
 
 unfoldable pub transfer_declined : Case → Bool
 transfer_declined c = declines c.message.reply
 
 -- 37: GrpSts is RJCT with TxSts, the client is not credited
-unfoldable pub refuses : Reply → Bool
-refuses NoReply = false
-refuses Accepts = false
-refuses Declines = false
-refuses Refuses = true
+unfoldable pub refuses : Option Reply → Bool
+refuses None = false
+refuses (Some Accepts) = false
+refuses (Some Declines) = false
+refuses (Some Refuses) = true
 
 unfoldable pub credit_refused : Case → Bool
 credit_refused c = refuses c.message.reply

@@ -1,14 +1,13 @@
 -- The check by which a message fails, and what becomes of the message: document 01, "The checks", "The slip" and what a step stores, and request 9
 -- of document 02.
-use Rattle.std.specs.Prelude.{Bool, false, ◌||◌, cond, List, [], ◌∷◌, ℕ, suc, eqb, get_or}
+use Rattle.std.specs.Prelude.{Bool, false, ◌||◌, cond, List, [], ◌∷◌, ℕ, suc, eqb, get_or, Option, Some, None}
 use Rattle.table.specs.declared.Kind.{Kind}
 use Rattle.table.specs.declared.Kind.TheVariants.{Pacs008, Camt050, Pacs028, Pacs002}
 use Rattle.table.specs.Checks.{rejecting, order_of, is_in}
 use Rattle.slip.specs.declared.Status.TheVariants.{Pdng, Accc, Rjct, Waits}
 use Rattle.slip.specs.Meaning.{kind_number, status_number}
 use Rattle.layout.specs.declared.rows.Step.{Step}
-use Rattle.journal.specs.declared.traces.Earlier.{Earlier}
-use Rattle.journal.specs.declared.traces.Earlier.TheVariants.{Of, None}
+use Rattle.journal.specs.declared.traces.Placed.{Placed}
 use Rattle.journal.specs.declared.results.Outcome.{Outcome}
 use Rattle.journal.specs.Answers.{result_now}
 use Rattle.journal.specs.Steps.{no_settings}
@@ -123,8 +122,8 @@ unfoldable pub sent : ℕ → Outcome
 sent check = cond (eqb check 0) (record { status = status_number Waits; check = 0 }) (record { status = status_number Rjct; check = check })
 
 -- what a pacs.028 tells of the payment that it asks after: what has become of it
-unfoldable pub told_of : Earlier → List ℕ → Outcome
-told_of (Of k x) s = result_now s k
+unfoldable pub told_of : Option Placed → List ℕ → Outcome
+told_of (Some e) s = result_now s e.place
 told_of None s = record { status = status_number Pdng; check = 0 }
 
 -- what a pacs.028 answers: its own first failing check as PDNG, else what is told of the payment
@@ -156,11 +155,11 @@ awaits Pacs028 o = false
 awaits Pacs002 o = false
 
 -- the number of the step that is closed: by an answer that settles the transfer, or fails by a check that rejects it
-unfoldable pub step_number : Earlier → ℕ
-step_number (Of k x) = suc k
+unfoldable pub step_number : Option Placed → ℕ
+step_number (Some e) = suc e.place
 step_number None = 0
 
-unfoldable pub closed_by : Kind → ℕ → Earlier → ℕ
+unfoldable pub closed_by : Kind → ℕ → Option Placed → ℕ
 closed_by Pacs008 check due = 0
 closed_by Camt050 check due = 0
 closed_by Pacs028 check due = 0

@@ -3,50 +3,41 @@ ghost use Rattle.std.specs.Prelude.{◌≡◌};
 ghost use Rattle.judge.specs.Rows.{identifier_bad, created_on, created_elsewhen, not_from_sender, original_bad};
 
 use crate::case::Case;
-use crate::values::agree;
 use shape::date::{date_of, day_before};
-use shape::value::Value;
 
+#[tactic(auto, unfolding(crate::specs::Rows::identifier_bad, crate::specs::Values::agree))]
 pub fn identifier_bad(c: Case) -> bool
     ensures { result ≡ identifier_bad c }
 {
-    let m = c.message;
-    let id = m.id;
-    let code = id.code;
-    !agree(code, Value::Of(c.sender))
+    c.message.id.code != Some(c.sender)
 }
 
 // Whether a time is on a day.
-fn created_on(time: Value, day: Value) -> bool
+#[tactic(auto, unfolding(crate::specs::Rows::created_on, crate::specs::Values::agree))]
+fn created_on(time: Option<u64>, day: Option<u64>) -> bool
     ensures { result ≡ created_on time day }
 {
-    match time {
-        Value::Of(n) => agree(Value::Of(date_of(n)), day),
-        Value::None => false,
-    }
+    time.is_some_and(|n| Some(date_of(n)) == day)
 }
 
+#[tactic(auto, unfolding(crate::specs::Rows::created_elsewhen))]
 pub fn created_elsewhen(c: Case) -> bool
     ensures { result ≡ created_elsewhen c }
 {
-    let m = c.message;
-    let created = m.created;
-    !(created_on(created, Value::Of(c.today)) | created_on(created, day_before(c.today)))
+    let created = c.message.created;
+    !(created_on(created, Some(c.today)) || created_on(created, day_before(c.today)))
 }
 
+#[tactic(auto, unfolding(crate::specs::Rows::not_from_sender, crate::specs::Values::agree))]
 pub fn not_from_sender(c: Case) -> bool
     ensures { result ≡ not_from_sender c }
 {
-    let m = c.message;
-    let instructing = m.instructing;
-    !agree(instructing, Value::Of(c.sender))
+    c.message.instructing != Some(c.sender)
 }
 
+#[tactic(auto, unfolding(crate::specs::Rows::original_bad, crate::specs::Values::agree))]
 pub fn original_bad(c: Case) -> bool
     ensures { result ≡ original_bad c }
 {
-    let m = c.message;
-    let original = m.original;
-    let code = original.code;
-    !agree(code, Value::Of(c.sender))
+    c.message.original.code != Some(c.sender)
 }

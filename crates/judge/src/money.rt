@@ -5,136 +5,88 @@ ghost use Rattle.slip.specs.Meaning.{steps};
 ghost use Rattle.layout.specs.Seat.{seat_long, head_of};
 ghost use Rattle.judge.specs.Rows.{kept_in, movement_in, account_at, debit_blocked, credit_blocked, money_short, limit_passed, limit_zero};
 
-use crate::case::{Case, Movement};
+use crate::case::{Case, Movement, NO_MOVEMENT};
 use crate::repeats::due_to;
-use crate::reply::accepts;
-use journal::{Earlier, available_below, blocked_into, blocked_out, turnover_above, turnover_shut};
+use journal::{Placed, available_below, blocked_into, blocked_out, turnover_above, turnover_shut};
 use layout::rows::Account;
 use layout::{ACCOUNTS, account};
-use shape::value::Value;
+use message::Reply;
 use table::Kind;
 
 // What a waiting transfer is to move.
-fn kept_in(transfer: Earlier) -> Movement
+#[tactic(auto, unfolding(crate::specs::Rows::kept_in))]
+fn kept_in(transfer: Option<Placed>) -> Movement
     ensures { result ≡ kept_in transfer }
 {
-    match transfer {
-        Earlier::Of(_place, x) => Movement {
-            debit: Value::Of(x.debit),
-            credit: Value::Of(x.credit),
-            amount: x.amount,
+    transfer.map_or(
+        NO_MOVEMENT,
+        |found| Movement {
+            debit: Some(found.step.debit),
+            credit: Some(found.step.credit),
+            amount: found.step.amount,
         },
-        Earlier::None => Movement {
-            debit: Value::None,
-            credit: Value::None,
-            amount: 0,
-        },
-    }
+    )
 }
 
 // The movement that a message is about in a seat, which checks 20 to 24 run on.
+#[tactic(auto, unfolding(crate::specs::Rows::movement_in, crate::specs::Rows::movement_for, crate::specs::Rows::accepts))]
 pub fn movement_in(c: Case, s: &[u64]) -> Movement
     requires { (length s.now ≡ seat_long) × ((head_of s.now).steps ≤ steps) }
     ensures { result ≡ movement_in c s.now }
 {
-    let m = c.message;
-    let kind = m.kind;
-    let reply = m.reply;
-    let own = c.movement;
-    match kind {
-        Kind::Pacs008 => own,
-        Kind::Camt050 => own,
-        Kind::Pacs028 => own,
-        Kind::Pacs002 => {
-            if accepts(reply) {
-                kept_in(due_to(c, s))
-            } else {
-                own
-            }
-        }
+    if c.message.kind == Kind::Pacs002 && c.message.reply == Some(Reply::Accepts) {
+        kept_in(due_to(c, s))
+    } else {
+        c.movement
     }
-}
-
-// An account, or that there is none.
-#[derive(Clone, Copy)]
-pub enum Holding {
-    Of(Account),
-    None,
 }
 
 // The account with a number in the seat.
-fn account_at(s: &[u64], number: Value) -> Holding
+#[tactic(auto, unfolding(crate::specs::Rows::account_at))]
+fn account_at(s: &[u64], number: Option<u64>) -> Option<Account>
     requires { length s.now ≡ seat_long }
     ensures { result ≡ account_at number s.now }
 {
-    match number {
-        Value::Of(i) => {
-            if i < ACCOUNTS as u64 {
-                Holding::Of(account(s, i as usize))
-            } else {
-                Holding::None
-            }
-        }
-        Value::None => Holding::None,
-    }
+    let i = number?;
+    (i < ACCOUNTS as u64).then(|| account(s, i as usize))
 }
 
+#[tactic(auto, unfolding(crate::specs::Rows::debit_blocked, crate::specs::Rows::shows))]
 pub fn debit_blocked(m: Movement, s: &[u64]) -> bool
     requires { length s.now ≡ seat_long }
     ensures { result ≡ debit_blocked m s.now }
 {
-    let number = m.debit;
-    let holding = account_at(s, number);
-    match holding {
-        Holding::Of(a) => blocked_out(a),
-        Holding::None => false,
-    }
+    account_at(s, m.debit).is_some_and(|a| blocked_out(a))
 }
 
+#[tactic(auto, unfolding(crate::specs::Rows::credit_blocked, crate::specs::Rows::shows))]
 pub fn credit_blocked(m: Movement, s: &[u64]) -> bool
     requires { length s.now ≡ seat_long }
     ensures { result ≡ credit_blocked m s.now }
 {
-    let number = m.credit;
-    let holding = account_at(s, number);
-    match holding {
-        Holding::Of(a) => blocked_into(a),
-        Holding::None => false,
-    }
+    account_at(s, m.credit).is_some_and(|a| blocked_into(a))
 }
 
+#[tactic(auto, unfolding(crate::specs::Rows::money_short, crate::specs::Rows::shows))]
 pub fn money_short(m: Movement, s: &[u64]) -> bool
     requires { length s.now ≡ seat_long }
     ensures { result ≡ money_short m s.now }
 {
-    let number = m.debit;
-    let holding = account_at(s, number);
-    match holding {
-        Holding::Of(a) => available_below(a, m.amount),
-        Holding::None => false,
-    }
+    account_at(s, m.debit).is_some_and(|a| available_below(a, m.amount))
 }
 
+#[tactic(auto, unfolding(crate::specs::Rows::limit_passed, crate::specs::Rows::shows))]
 pub fn limit_passed(m: Movement, s: &[u64]) -> bool
     requires { length s.now ≡ seat_long }
     ensures { result ≡ limit_passed m s.now }
 {
-    let number = m.debit;
-    let holding = account_at(s, number);
-    match holding {
-        Holding::Of(a) => turnover_above(a, m.amount),
-        Holding::None => false,
-    }
+    account_at(s, m.debit).is_some_and(|a| turnover_above(a, m.amount))
 }
 
+#[tactic(auto, unfolding(crate::specs::Rows::limit_zero, crate::specs::Rows::shows))]
 pub fn limit_zero(m: Movement, s: &[u64]) -> bool
     requires { length s.now ≡ seat_long }
     ensures { result ≡ limit_zero m s.now }
 {
-    let number = m.debit;
-    let holding = account_at(s, number);
-    match holding {
-        Holding::Of(a) => turnover_shut(a),
-        Holding::None => false,
-    }
+    account_at(s, m.debit).is_some_and(|a| turnover_shut(a))
 }

@@ -1,4 +1,6 @@
 // The first failing check of a message, in the order of its kind. The rules stand in `specs/Verdict.antt`.
+// Here and in `repeats.rt`, `money.rt` and `outcome.rt` a case and a seat with at most 24 steps go through the functions side by side, with that fact
+// in each clause: `fails`, `first_failing` and `step_by` are public over the two (docs/CONTRACTS.md), and one type of both would ask more of callers.
 ghost use Rattle.std.specs.Prelude.{◌≡◌, ◌≤◌, length};
 ghost use Rattle.slip.specs.Meaning.{steps};
 ghost use Rattle.layout.specs.Seat.{seat_long, head_of};
@@ -23,9 +25,10 @@ use crate::routing::{
     previous_not_serving,
 };
 use crate::sender::{sender_indirect, sender_no_owner, sender_not_instant, sender_unlisted};
-use table::{order_at, order_length};
+use table::order_of;
 
-// Whether the check with a number fails.
+// Whether the check with a number fails. The numbers are the document's own names of the checks, by which the theorems name them too.
+#[tactic(auto, unfolding(crate::specs::Verdict::fails, crate::specs::Verdict::rows_of))]
 pub fn fails(c: Case, s: &[u64], number: u64) -> bool
     requires { (length s.now ≡ seat_long) × ((head_of s.now).steps ≤ steps) }
     ensures { result ≡ fails c s.now number }
@@ -72,21 +75,15 @@ pub fn fails(c: Case, s: &[u64], number: u64) -> bool
     }
 }
 
-// The check that a message fails by, 0 where it fails by none.
+// The check that a message fails by, 0 where it fails by none: `verdict`, and `end_of`, `closed_by` and `step_by` which take it, are over ℕ.
 pub fn first_failing(c: Case, s: &[u64]) -> u64
     requires { (length s.now ≡ seat_long) × ((head_of s.now).steps ≤ steps) }
     ensures { result ≡ verdict c s.now }
 {
-    let m = c.message;
-    let kind = m.kind;
-    let count = order_length(kind);
-    let mut i = 0;
-    while i < count {
-        let number = order_at(kind, i);
-        if fails(c, s, number) {
-            return number;
+    for check in order_of(c.message.kind) {
+        if fails(c, s, *check) {
+            return *check;
         }
-        i += 1;
     }
     0
 }

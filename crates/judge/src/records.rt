@@ -4,9 +4,8 @@ ghost use Rattle.directory.specs.Gathering.{records_in};
 ghost use Rattle.judge.specs.Records.{asked_by, nothing_asked, asked_in, owner_code, debit_code, credit_code, looked_for};
 
 use crate::case::Looked;
-use directory::{Found, Gathered, Participant, account_in, find, find_as, find_given, find_in};
-use message::{Answer, Message};
-use shape::value::Value;
+use directory::{Gathered, Listed, Participant, account_in, find, find_given};
+use message::{Message, Refusal};
 use table::Kind;
 
 // The codes by which a message asks the directory, each of which may not be given.
@@ -14,90 +13,80 @@ use table::Kind;
 pub struct Asked {
     pub kind: Kind,
     // InstgAgt, InstdAgt, DbtrAgt and CdtrAgt.
-    pub instructing: Value,
-    pub instructed: Value,
-    pub debtor: Value,
-    pub creditor: Value,
+    pub instructing: Option<u64>,
+    pub instructed: Option<u64>,
+    pub debtor: Option<u64>,
+    pub creditor: Option<u64>,
     // The codes in DbtrAcct and CdtrAcct of a camt.050.
-    pub debit: Value,
-    pub credit: Value,
+    pub debit: Option<u64>,
+    pub credit: Option<u64>,
 }
 
 // What a message asks.
 pub fn asked_by(m: Message) -> Asked
     ensures { result ≡ asked_by m }
 {
-    let kind = m.kind;
-    let instructing = m.instructing;
-    let instructed = m.instructed;
-    let debtor_agent = m.debtor;
-    let debtor = debtor_agent.code;
-    let creditor_agent = m.creditor;
-    let creditor = creditor_agent.code;
     Asked {
-        kind,
-        instructing,
-        instructed,
-        debtor,
-        creditor,
-        debit: Value::Of(m.debit.code),
-        credit: Value::Of(m.credit.code),
+        kind: m.kind,
+        instructing: m.instructing,
+        instructed: m.instructed,
+        debtor: m.debtor.code,
+        creditor: m.creditor.code,
+        debit: Some(m.debit.code),
+        credit: Some(m.credit.code),
     }
 }
 
+// No kind of message asks nothing, so one that is looked up for no account stands here, as `nothing_asked` has it.
 fn nothing_asked() -> Asked
     ensures { result ≡ nothing_asked }
 {
     Asked {
         kind: Kind::Pacs028,
-        instructing: Value::None,
-        instructed: Value::None,
-        debtor: Value::None,
-        creditor: Value::None,
-        debit: Value::None,
-        credit: Value::None,
+        instructing: None,
+        instructed: None,
+        debtor: None,
+        creditor: None,
+        debit: None,
+        credit: None,
     }
 }
 
 // What a sheet asks: nothing where it is no message.
-pub fn asked_in(received: Answer) -> Asked
+#[tactic(auto, unfolding(crate::specs::Records::asked_in))]
+pub fn asked_in(received: Result<Message, Refusal>) -> Asked
     ensures { result ≡ asked_in received }
 {
     match received {
-        Answer::IllFormed(_place) => nothing_asked(),
-        Answer::BadField(_number) => nothing_asked(),
-        Answer::Good(m) => asked_by(m),
+        Ok(m) => asked_by(m),
+        Err(_refusal) => nothing_asked(),
     }
 }
 
 // The code of the owner of an account: of a pacs.008 by its agent, of a camt.050 by the code that is named.
-fn owner_code(kind: Kind, agent: Found, named: Value) -> Value
+#[tactic(auto, unfolding(crate::specs::Records::owner_code))]
+fn owner_code(kind: Kind, agent: Option<Listed>, named: Option<u64>) -> Option<u64>
     ensures { result ≡ owner_code kind agent named }
 {
     match kind {
         Kind::Pacs008 => account_in(agent),
         Kind::Camt050 => named,
-        Kind::Pacs028 => Value::None,
-        Kind::Pacs002 => Value::None,
+        Kind::Pacs028 | Kind::Pacs002 => None,
     }
 }
 
 // The code of the owner of the debited account, by what was found of InstgAgt.
-pub fn debit_code(asked: Asked, instructing: Found) -> Value
+pub fn debit_code(asked: Asked, instructing: Option<Listed>) -> Option<u64>
     ensures { result ≡ debit_code asked instructing }
 {
-    let kind = asked.kind;
-    let named = asked.debit;
-    owner_code(kind, instructing, named)
+    owner_code(asked.kind, instructing, asked.debit)
 }
 
 // The code of the owner of the credited account, by what was found of InstdAgt.
-pub fn credit_code(asked: Asked, instructed: Found) -> Value
+pub fn credit_code(asked: Asked, instructed: Option<Listed>) -> Option<u64>
     ensures { result ≡ credit_code asked instructed }
 {
-    let kind = asked.kind;
-    let named = asked.credit;
-    owner_code(kind, instructed, named)
+    owner_code(asked.kind, instructed, asked.credit)
 }
 
 // Looks up in a lent directory, by its thin search, all that was asked for a sender.
@@ -105,20 +94,15 @@ pub fn credit_code(asked: Asked, instructed: Found) -> Value
 pub fn look_up(dir: &[Participant], sender: u64, asked: Asked) -> Looked
     ensures { result ≡ looked_for dir.now sender asked }
 {
-    let source = find(dir, sender);
     let instructing = find_given(dir, asked.instructing);
     let instructed = find_given(dir, asked.instructed);
-    let debtor = find_given(dir, asked.debtor);
-    let creditor = find_given(dir, asked.creditor);
-    let debit = find_given(dir, debit_code(asked, instructing));
-    let credit = find_given(dir, credit_code(asked, instructed));
     Looked {
-        source,
+        source: find(dir, sender),
         instructed,
-        debtor,
-        creditor,
-        debit,
-        credit,
+        debtor: find_given(dir, asked.debtor),
+        creditor: find_given(dir, asked.creditor),
+        debit: find_given(dir, debit_code(asked, instructing)),
+        credit: find_given(dir, credit_code(asked, instructed)),
     }
 }
 
@@ -126,18 +110,5 @@ pub fn look_up(dir: &[Participant], sender: u64, asked: Asked) -> Looked
 pub fn look_among(g: Gathered, sender: u64, asked: Asked) -> Looked
     ensures { result ≡ looked_for (records_in g) sender asked }
 {
-    let instructing_code = asked.instructing;
-    let instructed_code = asked.instructed;
-    let debtor_code = asked.debtor;
-    let creditor_code = asked.creditor;
-    let instructing = find_as(g, instructing_code);
-    let instructed = find_as(g, instructed_code);
-    Looked {
-        source: find_in(g, sender),
-        instructed,
-        debtor: find_as(g, debtor_code),
-        creditor: find_as(g, creditor_code),
-        debit: find_as(g, debit_code(asked, instructing)),
-        credit: find_as(g, credit_code(asked, instructed)),
-    }
+    look_up(g.as_slice(), sender, asked)
 }

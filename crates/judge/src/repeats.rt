@@ -5,52 +5,46 @@ ghost use Rattle.layout.specs.Seat.{seat_long, head_of};
 ghost use Rattle.judge.specs.Rows.{identifier_repeated, asked_after, original_unknown, differs, original_differs, uetr_repeated, due_to, nothing_due};
 
 use crate::case::Case;
-use crate::values::agree;
-use journal::{Earlier, Trace, earliest, is_known, is_there};
+use journal::{Placed, Trace, earliest, is_known};
 use message::Message;
-use shape::stored::{same_identifier, same_uetr};
-use shape::value::Value;
 
+#[tactic(auto, unfolding(crate::specs::Rows::identifier_repeated, journal::specs::Traces::is_there))]
 pub fn identifier_repeated(c: Case, s: &[u64]) -> bool
     requires { (length s.now ≡ seat_long) × ((head_of s.now).steps ≤ steps) }
     ensures { result ≡ identifier_repeated c s.now }
 {
-    let id = c.message.id.stored;
-    is_there(earliest(s, Trace::Message(id)))
+    earliest(s, Trace::Message(c.message.id.stored)).is_some()
 }
 
 // The payment that a pacs.028 asks after.
-pub fn asked_after(c: Case, s: &[u64]) -> Earlier
+#[tactic(auto, unfolding(crate::specs::Rows::asked_after))]
+pub fn asked_after(c: Case, s: &[u64]) -> Option<Placed>
     requires { (length s.now ≡ seat_long) × ((head_of s.now).steps ≤ steps) }
     ensures { result ≡ asked_after c s.now }
 {
-    let id = c.message.original.stored;
-    earliest(s, Trace::Payment(id))
+    earliest(s, Trace::Payment(c.message.original.stored))
 }
 
+#[tactic(auto, unfolding(crate::specs::Rows::original_unknown))]
 pub fn original_unknown(c: Case, s: &[u64]) -> bool
     requires { (length s.now ≡ seat_long) × ((head_of s.now).steps ≤ steps) }
     ensures { result ≡ original_unknown c s.now }
 {
-    let id = c.message.original.stored;
-    !is_known(s, id)
+    !is_known(s, c.message.original.stored)
 }
 
 // Whether a payment differs from what a pacs.028 says of it.
-fn differs(m: Message, payment: Earlier) -> bool
+#[tactic(auto, unfolding(crate::specs::Rows::differs, crate::specs::Values::agree, shape::specs::Stored::same_uetr, shape::specs::Stored::same_identifier))]
+fn differs(m: Message, payment: Option<Placed>) -> bool
     ensures { result ≡ differs m payment }
 {
-    let originated = m.originated;
-    match payment {
-        Earlier::Of(_place, x) => {
-            !(agree(originated, Value::Of(x.created))
-                & same_uetr(x.uetr, m.uetr)
-                & same_identifier(x.reference, m.reference))
-        }
-        Earlier::None => false,
-    }
+    payment.is_some_and(|found| {
+        let x = found.step;
+        m.originated != Some(x.created) || x.uetr != m.uetr || x.reference != m.reference
+    })
 }
 
+#[tactic(auto, unfolding(crate::specs::Rows::original_differs))]
 pub fn original_differs(c: Case, s: &[u64]) -> bool
     requires { (length s.now ≡ seat_long) × ((head_of s.now).steps ≤ steps) }
     ensures { result ≡ original_differs c s.now }
@@ -58,26 +52,27 @@ pub fn original_differs(c: Case, s: &[u64]) -> bool
     differs(c.message, asked_after(c, s))
 }
 
+#[tactic(auto, unfolding(crate::specs::Rows::uetr_repeated, journal::specs::Traces::is_there))]
 pub fn uetr_repeated(c: Case, s: &[u64]) -> bool
     requires { (length s.now ≡ seat_long) × ((head_of s.now).steps ≤ steps) }
     ensures { result ≡ uetr_repeated c s.now }
 {
-    let uetr = c.message.uetr;
-    is_there(earliest(s, Trace::Transfer(uetr)))
+    earliest(s, Trace::Transfer(c.message.uetr)).is_some()
 }
 
 // The transfer that a pacs.002 answers.
-pub fn due_to(c: Case, s: &[u64]) -> Earlier
+#[tactic(auto, unfolding(crate::specs::Rows::due_to))]
+pub fn due_to(c: Case, s: &[u64]) -> Option<Placed>
     requires { (length s.now ≡ seat_long) × ((head_of s.now).steps ≤ steps) }
     ensures { result ≡ due_to c s.now }
 {
-    let id = c.message.original.stored;
-    earliest(s, Trace::Due(id, c.sender))
+    earliest(s, Trace::Due(c.message.original.stored, c.sender))
 }
 
+#[tactic(auto, unfolding(crate::specs::Rows::nothing_due, journal::specs::Traces::is_there))]
 pub fn nothing_due(c: Case, s: &[u64]) -> bool
     requires { (length s.now ≡ seat_long) × ((head_of s.now).steps ≤ steps) }
     ensures { result ≡ nothing_due c s.now }
 {
-    !is_there(due_to(c, s))
+    due_to(c, s).is_none()
 }

@@ -1,44 +1,21 @@
-// Checks 36 and 37, and what an accepting answer says: what the receiving bank replies. The rules stand in `specs/Rows.antt`, one definition for
+// Checks 36 and 37: what the receiving bank replies. The rules stand in `specs/Rows.antt`, one definition for
 // each function.
 ghost use Rattle.std.specs.Prelude.{◌≡◌};
-ghost use Rattle.judge.specs.Rows.{accepts, transfer_declined, credit_refused};
+ghost use Rattle.judge.specs.Rows.{transfer_declined, credit_refused};
 
 use crate::case::Case;
 use message::Reply;
 
-pub fn accepts(reply: Reply) -> bool
-    ensures { result ≡ accepts reply }
-{
-    match reply {
-        Reply::NoReply => false,
-        Reply::Accepts => true,
-        Reply::Declines => false,
-        Reply::Refuses => false,
-    }
-}
-
+#[tactic(auto, unfolding(crate::specs::Rows::transfer_declined, crate::specs::Rows::declines))]
 pub fn transfer_declined(c: Case) -> bool
     ensures { result ≡ transfer_declined c }
 {
-    let m = c.message;
-    let reply = m.reply;
-    match reply {
-        Reply::NoReply => false,
-        Reply::Accepts => false,
-        Reply::Declines => true,
-        Reply::Refuses => false,
-    }
+    c.message.reply == Some(Reply::Declines)
 }
 
+#[tactic(auto, unfolding(crate::specs::Rows::credit_refused, crate::specs::Rows::refuses))]
 pub fn credit_refused(c: Case) -> bool
     ensures { result ≡ credit_refused c }
 {
-    let m = c.message;
-    let reply = m.reply;
-    match reply {
-        Reply::NoReply => false,
-        Reply::Accepts => false,
-        Reply::Declines => false,
-        Reply::Refuses => true,
-    }
+    c.message.reply == Some(Reply::Refuses)
 }

@@ -3,33 +3,32 @@ ghost use Rattle.std.specs.Prelude.{◌≡◌};
 ghost use Rattle.judge.specs.Rows.{sender_unlisted, sender_indirect, sender_not_instant, sender_no_owner};
 
 use crate::case::Case;
-use crate::values::is_given;
-use directory::{head_in, is_instant, is_listed, is_owner_found, under_sep};
+use directory::{head_in, is_instant, is_owner_found, under_sep};
 
+#[tactic(auto, unfolding(crate::specs::Rows::sender_unlisted))]
 pub fn sender_unlisted(c: Case) -> bool
     ensures { result ≡ sender_unlisted c }
 {
-    let source = c.source;
-    !under_sep(source)
+    !under_sep(c.source)
 }
 
+#[tactic(auto, unfolding(crate::specs::Rows::sender_indirect))]
 pub fn sender_indirect(c: Case) -> bool
     ensures { result ≡ sender_indirect c }
 {
-    let source = c.source;
-    is_given(head_in(source))
+    head_in(c.source).is_some()
 }
 
+#[tactic(auto, unfolding(crate::specs::Rows::sender_not_instant))]
 pub fn sender_not_instant(c: Case) -> bool
     ensures { result ≡ sender_not_instant c }
 {
-    let source = c.source;
-    is_listed(source) & !is_instant(source)
+    c.source.is_some() && !is_instant(c.source)
 }
 
+#[tactic(auto, unfolding(crate::specs::Rows::sender_no_owner))]
 pub fn sender_no_owner(c: Case) -> bool
     ensures { result ≡ sender_no_owner c }
 {
-    let source = c.source;
-    is_listed(source) & !is_owner_found(source)
+    c.source.is_some() && !is_owner_found(c.source)
 }

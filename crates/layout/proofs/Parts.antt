@@ -141,3 +141,5 @@ rows_agree s t a w (suc n) same =
     let ahead : part s a (w * n) ≡ part t a (w * n) = rows_agree s t a w n (λ (k : ℕ) (h : k < n). same k (omega arith)) in
     let last : part s (a + w * n) w ≡ part t (a + w * n) w = same n (omega arith) in
     rw (mul-suc w n, part-add s a (w * n) w, part-add t a (w * n) w, ahead, last)
+
+pub ruleset parts = (lent, given_back)

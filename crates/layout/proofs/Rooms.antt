@@ -58,3 +58,5 @@ same-room r t d e same =
     sym (part-whole r room_long d)
     ∙ rows_agree r t 0 seat_long seats (λ (k : ℕ) (b : k < seats). rw (zero-add (seat_from k)) (same k b))
     ∙ part-whole t room_long e
+
+pub ruleset rooms = (seat-lent, seat-back)

@@ -6,6 +6,8 @@ use Prim.Native.Nat.{ℕ}
 use Rattle.shape.proofs.Single.{Settled, SettledWith, SettledShown, by-equation}
 use Rattle.layout.proofs.rows.read_head.Kinds as read-head-kinds
 use Rattle.layout.proofs.rows.read_head.Reads as read-head-reads
+use Rattle.layout.proofs.rows.Head.is_open.Kinds as is-open-kinds
+use Rattle.layout.proofs.rows.Head.is_open.Reads as is-open-reads
 use Rattle.layout.proofs.rows.write_head.Kinds as write-head-kinds
 use Rattle.layout.proofs.rows.write_head.Reads as write-head-reads
 use Rattle.layout.proofs.rows.read_account.Kinds as read-account-kinds
@@ -38,6 +40,9 @@ use Rattle.layout.proofs.seat_in.Reads as seat-in-reads
 -- a function that answers nothing is settled by what it leaves of what it was lent
 pub read_head : Settled _ read-head-kinds.ps read-head-kinds.r read-head-reads.Post
 read_head κs a x y e f = by-equation
+
+pub is-open : Settled _ is-open-kinds.ps is-open-kinds.r is-open-reads.Post
+is-open κs a x y e f = by-equation
 
 pub write-head : SettledWith _ write-head-kinds.ps write-head-kinds.r write-head-reads.Post (List ℕ) (λ κs e. e.0.now)
 write-head κs a x y e f p q = (refl, by-equation p q)

@@ -1,6 +1,6 @@
 // The rows of a seat, each as a struct by value, read from and written to a part of exactly its length.
-ghost use Rattle.std.specs.Prelude.{◌≡◌, length};
-ghost use Rattle.layout.specs.Rows.{head_long, head_row, head_in, account_long, account_row, account_in, step_long, step_row, step_in};
+ghost use Rattle.std.specs.Prelude.{◌≡◌, ◌+◌, ◌≤◌, eqb, length};
+ghost use Rattle.layout.specs.Rows.{head_long, head_row, head_in, account_long, account_row, account_in, step_long, step_row, step_in, settings_from, identifier_from};
 
 use shape::stored::{Identifier, Uetr};
 
@@ -15,15 +15,24 @@ pub const STEP_LONG: usize = 31;
 pub const ANSWERS_AT: usize = 30;
 
 // A seat's head: how often it was opened, whether it is open (0 or 1), and how many steps its journal has.
-#[derive(Clone, Copy)]
+#[derive(Clone, Copy, PartialEq, Eq, Debug)]
 pub struct Head {
     pub opening: u64,
     pub opened: u64,
     pub steps: u64,
 }
 
+impl Head {
+    // The number of a row is 0 or 1 in a fit room and any number in another one.
+    pub fn is_open(self) -> bool
+        ensures { result ≡ eqb self.opened 1 }
+    {
+        self.opened == 1
+    }
+}
+
 // What a set call gives: both blocks (0 or 1), LTK, and LPO as 0 for none and n + 1 for n.
-#[derive(Clone, Copy)]
+#[derive(Clone, Copy, PartialEq, Eq, Debug)]
 pub struct Settings {
     pub out: u64,
     pub into: u64,
@@ -32,7 +41,7 @@ pub struct Settings {
 }
 
 // An account, in kopecks.
-#[derive(Clone, Copy)]
+#[derive(Clone, Copy, PartialEq, Eq, Debug)]
 pub struct Account {
     pub opening: u64,
     pub balance: u64,
@@ -41,7 +50,7 @@ pub struct Account {
 }
 
 // A step of the journal. What its kind lacks is zero.
-#[derive(Clone, Copy)]
+#[derive(Clone, Copy, PartialEq, Eq, Debug)]
 pub struct Step {
     // 1 pacs.008, 2 camt.050, 3 pacs.028, 4 pacs.002, 5 a set; 0 for no step
     pub kind: u64,
@@ -66,6 +75,7 @@ pub struct Step {
     pub answers: u64,
 }
 
+#[tactic(auto, unfolding(crate::specs::Rows::head_in))]
 pub fn read_head(s: &[u64]) -> Head
     requires { length s.now ≡ head_long }
     ensures { result ≡ head_in s.now }
@@ -77,15 +87,43 @@ pub fn read_head(s: &[u64]) -> Head
     }
 }
 
+#[tactic(auto, unfolding(crate::specs::Rows::head_row))]
 pub fn write_head(s: &mut [u64], h: Head)
     requires { length s.old ≡ head_long }
     ensures { s.new ≡ head_row h }
 {
-    s[0] = h.opening;
-    s[1] = h.opened;
-    s[2] = h.steps;
+    s.copy_from_slice(&[h.opening, h.opened, h.steps]);
 }
 
+// The settings and the identifier that stand from a place of a row on.
+#[tactic(auto, using(crate::proofs::RowLaws::in_a_block))]
+fn settings_from(s: &[u64], from: usize) -> Settings
+    requires { from + 4 ≤ length s.now }
+    ensures { result ≡ settings_from s.now from }
+{
+    Settings {
+        out: s[from],
+        into: s[from + 1],
+        ltk: s[from + 2],
+        lpo: s[from + 3],
+    }
+}
+
+#[tactic(auto, using(crate::proofs::RowLaws::in_a_block))]
+fn identifier_from(s: &[u64], from: usize) -> Identifier
+    requires { from + 5 ≤ length s.now }
+    ensures { result ≡ identifier_from s.now from }
+{
+    Identifier {
+        first: s[from],
+        second: s[from + 1],
+        third: s[from + 2],
+        fourth: s[from + 3],
+        fifth: s[from + 4],
+    }
+}
+
+#[tactic(auto, unfolding(crate::specs::Rows::account_in))]
 pub fn read_account(s: &[u64]) -> Account
     requires { length s.now ≡ account_long }
     ensures { result ≡ account_in s.now }
@@ -94,28 +132,27 @@ pub fn read_account(s: &[u64]) -> Account
         opening: s[0],
         balance: s[1],
         turnover: s[2],
-        settings: Settings {
-            out: s[3],
-            into: s[4],
-            ltk: s[5],
-            lpo: s[6],
-        },
+        settings: settings_from(s, 3),
     }
 }
 
+#[tactic(auto, unfolding(crate::specs::Rows::account_row))]
 pub fn write_account(s: &mut [u64], a: Account)
     requires { length s.old ≡ account_long }
     ensures { s.new ≡ account_row a }
 {
-    s[0] = a.opening;
-    s[1] = a.balance;
-    s[2] = a.turnover;
-    s[3] = a.settings.out;
-    s[4] = a.settings.into;
-    s[5] = a.settings.ltk;
-    s[6] = a.settings.lpo;
+    s.copy_from_slice(&[
+        a.opening,
+        a.balance,
+        a.turnover,
+        a.settings.out,
+        a.settings.into,
+        a.settings.ltk,
+        a.settings.lpo,
+    ]);
 }
 
+#[tactic(auto, unfolding(crate::specs::Rows::step_in))]
 pub fn read_step(s: &[u64]) -> Step
     requires { length s.now ≡ step_long }
     ensures { result ≡ step_in s.now }
@@ -125,79 +162,60 @@ pub fn read_step(s: &[u64]) -> Step
         status: s[1],
         check: s[2],
         sender: s[3],
-        id: Identifier {
-            first: s[4],
-            second: s[5],
-            third: s[6],
-            fourth: s[7],
-            fifth: s[8],
-        },
+        id: identifier_from(s, 4),
         uetr: Uetr {
             high: s[9],
             low: s[10],
         },
         created: s[11],
-        reference: Identifier {
-            first: s[12],
-            second: s[13],
-            third: s[14],
-            fourth: s[15],
-            fifth: s[16],
-        },
+        reference: identifier_from(s, 12),
         debit: s[17],
         credit: s[18],
         amount: s[19],
         account: s[20],
-        old: Settings {
-            out: s[21],
-            into: s[22],
-            ltk: s[23],
-            lpo: s[24],
-        },
-        given: Settings {
-            out: s[25],
-            into: s[26],
-            ltk: s[27],
-            lpo: s[28],
-        },
+        old: settings_from(s, 21),
+        given: settings_from(s, 25),
         receiver: s[29],
-        answers: s[30],
+        answers: s[ANSWERS_AT],
     }
 }
 
+#[tactic(auto, unfolding(crate::specs::Rows::step_row))]
 pub fn write_step(s: &mut [u64], x: Step)
     requires { length s.old ≡ step_long }
     ensures { s.new ≡ step_row x }
 {
-    s[0] = x.kind;
-    s[1] = x.status;
-    s[2] = x.check;
-    s[3] = x.sender;
-    s[4] = x.id.first;
-    s[5] = x.id.second;
-    s[6] = x.id.third;
-    s[7] = x.id.fourth;
-    s[8] = x.id.fifth;
-    s[9] = x.uetr.high;
-    s[10] = x.uetr.low;
-    s[11] = x.created;
-    s[12] = x.reference.first;
-    s[13] = x.reference.second;
-    s[14] = x.reference.third;
-    s[15] = x.reference.fourth;
-    s[16] = x.reference.fifth;
-    s[17] = x.debit;
-    s[18] = x.credit;
-    s[19] = x.amount;
-    s[20] = x.account;
-    s[21] = x.old.out;
-    s[22] = x.old.into;
-    s[23] = x.old.ltk;
-    s[24] = x.old.lpo;
-    s[25] = x.given.out;
-    s[26] = x.given.into;
-    s[27] = x.given.ltk;
-    s[28] = x.given.lpo;
-    s[29] = x.receiver;
-    s[30] = x.answers;
+    s.copy_from_slice(&[
+        x.kind,
+        x.status,
+        x.check,
+        x.sender,
+        x.id.first,
+        x.id.second,
+        x.id.third,
+        x.id.fourth,
+        x.id.fifth,
+        x.uetr.high,
+        x.uetr.low,
+        x.created,
+        x.reference.first,
+        x.reference.second,
+        x.reference.third,
+        x.reference.fourth,
+        x.reference.fifth,
+        x.debit,
+        x.credit,
+        x.amount,
+        x.account,
+        x.old.out,
+        x.old.into,
+        x.old.ltk,
+        x.old.lpo,
+        x.given.out,
+        x.given.into,
+        x.given.ltk,
+        x.given.lpo,
+        x.receiver,
+        x.answers,
+    ]);
 }

@@ -10,30 +10,25 @@ ghost use Rattle.directory.specs.Gathering.{directory_in};
 ghost use Rattle.centre.specs.Answers.{told};
 ghost use Rattle.centre.specs.Calls.{open_told, open_after, set_told, set_after, read_told};
 ghost use Rattle.centre.specs.Submit.{submit_told, submit_after, submit_slip};
-ghost use Rattle.lender.specs.Lending.{lent_count};
+ghost use Rattle.lender.specs.Lending.{lent_in};
 
-use centre::{Answer, Ticket, open_seat, read_account, set_account, submit_sheet};
-use directory::{Gathered, RECORDS_MOST};
+use centre::{Done, Refusal, Ticket, open_seat, read_account, set_account, submit_sheet};
+use directory::{Gathered, Participant};
 use seat::Wish;
 
-// How many records of a gathered directory are lent.
-fn lent_count(g: Gathered) -> usize
-    ensures { result ≡ lent_count g }
+// The records of a gathered directory that are lent.
+fn lent(g: &Gathered) -> &[Participant]
+    ensures { result.now ≡ lent_in g.now }
 {
-    if RECORDS_MOST < g.count {
-        return 0;
-    }
-    g.count
+    g.records.get(..g.count).unwrap_or(&[])
 }
 
 // Opens a seat with two sums for each record of the directory.
-pub fn open_with(room: &mut [u64], g: Gathered, seat: u64, sums: &[u64]) -> Answer
+pub fn open_with(room: &mut [u64], g: Gathered, seat: u64, sums: &[u64]) -> Result<Done, Refusal>
     ensures result_value { told result ≡ open_told (directory_in g) seat sums.now room.old }
     ensures room_after { room.new ≡ open_after (directory_in g) seat sums.now room.old }
 {
-    let n = lent_count(g);
-    let records = g.records;
-    open_seat(room, &records[..n], seat, sums)
+    open_seat(room, lent(&g), seat, sums)
 }
 
 // Sets an account's blocks and limits, as one step.
@@ -44,13 +39,11 @@ pub fn set_with(
     owner: u64,
     number: u64,
     wish: Wish,
-) -> Answer
+) -> Result<Done, Refusal>
     ensures result_value { told result ≡ set_told (directory_in g) ticket owner number wish room.old }
     ensures room_after { room.new ≡ set_after (directory_in g) ticket owner number wish room.old }
 {
-    let n = lent_count(g);
-    let records = g.records;
-    set_account(room, &records[..n], ticket, owner, number, wish)
+    set_account(room, lent(&g), ticket, owner, number, wish)
 }
 
 // Submits a sheet for a sender on a date.
@@ -62,21 +55,23 @@ pub fn submit_with(
     today: u64,
     sheet: &[u8],
     slip: &mut [u8],
-) -> Answer
+) -> Result<Done, Refusal>
     ensures result_value { told result ≡ submit_told (directory_in g) ticket sender today sheet.now slip.old room.old }
     ensures room_after { room.new ≡ submit_after (directory_in g) ticket sender today sheet.now slip.old room.old }
     ensures slip_after { slip.new ≡ submit_slip (directory_in g) ticket sender today sheet.now slip.old room.old }
 {
-    let n = lent_count(g);
-    let records = g.records;
-    submit_sheet(room, &records[..n], ticket, sender, today, sheet, slip)
+    submit_sheet(room, lent(&g), ticket, sender, today, sheet, slip)
 }
 
 // Reads all that an account holds.
-pub fn read_with(room: &[u64], g: Gathered, ticket: Ticket, owner: u64, number: u64) -> Answer
+pub fn read_with(
+    room: &[u64],
+    g: Gathered,
+    ticket: Ticket,
+    owner: u64,
+    number: u64,
+) -> Result<Done, Refusal>
     ensures { told result ≡ read_told (directory_in g) ticket owner number room.now }
 {
-    let n = lent_count(g);
-    let records = g.records;
-    read_account(room, &records[..n], ticket, owner, number)
+    read_account(room, lent(&g), ticket, owner, number)
 }

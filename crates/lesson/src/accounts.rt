@@ -1,33 +1,28 @@
 // What is seen of a seat: its balances before and after a call, how many steps it has, and its last one.
-use crate::show::{put_code, put_next, put_number, put_sum};
+ghost use Rattle.std.specs.Prelude.{◌≡◌, length};
+ghost use Rattle.layout.specs.Seat.{seat_long};
+
+use crate::show::{Code, NEXT, Sum};
 use directory::Gathered;
-use layout::{ACCOUNTS, PLACES, ROOM_LONG, SEAT_LONG, account, head, seat_in, step};
+use layout::rows::Step;
+use layout::{ACCOUNTS, ROOM_LONG, SEAT_LONG, account, head, seat_in, step};
+use script::Line;
 use slip::{SEATS, STEPS};
 use std::io;
 use std::io::Write;
 
-// What is seen of the last step: its kind by number, the bank that is to answer it, and the number of the step that it answers. What it lacks is
-// zero, and so is all of it where there is no step.
-#[derive(Clone, Copy)]
-pub struct LastStep {
-    pub kind: u64,
-    pub receiver: u64,
-    pub answers: u64,
-}
-
-// What is seen: zeros where there is no such seat.
+// What is seen: zeros and no step where there is no such seat.
 #[derive(Clone, Copy)]
 pub struct Sight {
     pub balances: [u64; ACCOUNTS],
     pub steps: u64,
-    pub last: LastStep,
+    pub last: Option<Step>,
 }
 
-fn no_last_step() -> LastStep {
-    LastStep {
-        kind: 0,
-        receiver: 0,
-        answers: 0,
+impl Sight {
+    // The number of the step that the last one answers.
+    pub fn answers(&self) -> Option<u64> {
+        self.last.map(|x| x.answers).filter(|step| *step != 0)
     }
 }
 
@@ -35,114 +30,93 @@ fn nothing() -> Sight {
     Sight {
         balances: [0u64; ACCOUNTS],
         steps: 0,
-        last: no_last_step(),
+        last: None,
     }
 }
 
-fn balances_in(s: &[u64]) -> [u64; ACCOUNTS] {
+fn balances_in(s: &[u64]) -> [u64; ACCOUNTS]
+    requires { length s.now ≡ seat_long }
+{
     let mut balances = [0u64; ACCOUNTS];
-    if s.len() != SEAT_LONG {
-        return balances;
-    }
-    for i in 0..ACCOUNTS {
-        let a = account(s, i);
-        balances[i] = a.balance;
+    for (i, balance) in balances.iter_mut().enumerate() {
+        *balance = account(s, i).balance;
     }
     balances
 }
 
 // The last of so many steps.
-fn last_of(s: &[u64], steps: u64) -> LastStep {
-    if s.len() != SEAT_LONG {
-        return no_last_step();
-    }
-    if steps == 0 {
-        return no_last_step();
-    }
+fn last_of(s: &[u64], steps: u64) -> Option<Step>
+    requires { length s.now ≡ seat_long }
+{
     if STEPS < steps {
-        return no_last_step();
+        return None;
     }
-    let x = step(s, (steps - 1) as usize);
-    LastStep {
-        kind: x.kind,
-        receiver: x.receiver,
-        answers: x.answers,
-    }
+    let last = steps.checked_sub(1)?;
+    Some(step(s, last as usize))
 }
 
 fn seen_in(s: &[u64]) -> Sight {
     if s.len() != SEAT_LONG {
         return nothing();
     }
-    let h = head(s);
+    let steps = head(s).steps;
     Sight {
         balances: balances_in(s),
-        steps: h.steps,
-        last: last_of(s, h.steps),
+        steps,
+        last: last_of(s, steps),
     }
 }
 
 // What is seen of a seat of the room.
 pub fn seen(room: &[u64], seat: u64) -> Sight {
-    if SEATS <= seat {
-        return nothing();
-    }
-    if room.len() != ROOM_LONG {
+    if SEATS <= seat || room.len() != ROOM_LONG {
         return nothing();
     }
     seen_in(seat_in(room, seat as usize))
 }
 
-// An account by its number in a seat, with the code of the bank that owns it.
-fn put_name<W: Write>(out: &mut W, g: Gathered, i: usize) -> io::Result<()> {
-    let records = g.records;
-    let place = i / 2;
-    if PLACES <= place {
-        return Ok(());
-    }
-    let owner = records[place];
-    put_next(out)?;
-    put_code(out, owner.code)?;
-    out.write_all(b" account ")?;
-    put_number(out, (i % 2 + 1) as u64)?;
-    out.write_all(b": ")
+// A call that was made: its line, the list of banks, and what was seen of its seat before and after.
+#[derive(Clone, Copy)]
+pub struct Call {
+    pub line: Line,
+    pub banks: Gathered,
+    pub before: Sight,
+    pub after: Sight,
 }
 
-// The balances that a call changed.
-pub fn put_changes<W: Write>(
-    out: &mut W,
-    g: Gathered,
-    before: [u64; ACCOUNTS],
-    after: [u64; ACCOUNTS],
-) -> io::Result<()> {
-    let mut changed = false;
-    for i in 0..ACCOUNTS {
-        if before[i] != after[i] {
-            put_name(out, g, i)?;
-            put_sum(out, before[i])?;
-            out.write_all(b" -> ")?;
-            put_sum(out, after[i])?;
-            changed = true;
+impl Call {
+    // An account by its number in a seat, with the code of the bank that owns it.
+    fn put_name<W: Write>(&self, out: &mut W, i: usize) -> io::Result<()> {
+        if let Some(bank) = self.banks.records.get(i / 2) {
+            write!(out, "{NEXT}{} account {}: ", Code(bank.code), i % 2 + 1)?;
         }
+        Ok(())
     }
-    if !changed {
-        put_next(out)?;
-        out.write_all(b"no balance changed")?;
-    }
-    Ok(())
-}
 
-// The balances that are not zero.
-pub fn put_balances<W: Write>(
-    out: &mut W,
-    g: Gathered,
-    balances: [u64; ACCOUNTS],
-) -> io::Result<()> {
-    for i in 0..ACCOUNTS {
-        if balances[i] != 0 {
-            put_name(out, g, i)?;
-            put_sum(out, balances[i])?;
+    // The balances that the call changed.
+    pub fn put_changes<W: Write>(&self, out: &mut W) -> io::Result<()> {
+        let before = &self.before.balances;
+        let after = &self.after.balances;
+        if before == after {
+            return write!(out, "{NEXT}no balance changed");
         }
+        for (i, (was, is)) in before.iter().zip(after).enumerate() {
+            if was != is {
+                self.put_name(out, i)?;
+                write!(out, "{} -> {}", Sum(*was), Sum(*is))?;
+            }
+        }
+        Ok(())
     }
-    Ok(())
+
+    // The balances after the call that are not zero.
+    pub fn put_balances<W: Write>(&self, out: &mut W) -> io::Result<()> {
+        for (i, balance) in self.after.balances.iter().enumerate() {
+            if *balance != 0 {
+                self.put_name(out, i)?;
+                write!(out, "{}", Sum(*balance))?;
+            }
+        }
+        Ok(())
+    }
 }

@@ -1,205 +1,189 @@
 // What became of a message, read off its slip and off the row of its step; what a slip says; and a step that is taken back.
-use crate::accounts::{Sight, put_changes};
-use crate::fields::put_kind;
-use crate::meanings::{put_check, put_meaning};
-use crate::show::{put_bytes, put_code, put_next, put_number};
-use centre::{Answer, read_slip};
-use directory::Gathered;
-use slip::{SLIP_LONG, Slip};
+use crate::accounts::Call;
+use crate::meanings::{meaning, put_check};
+use crate::show::{Code, NEXT, put_bytes};
+use centre::Done;
+use slip::{ACCC, CAMT_050, PACS_002, PACS_008, PACS_028, PDNG, RJCT, SLIP_LONG, Slip, Status};
 use std::io;
 use std::io::Write;
 use table::Kind;
 
-// The kinds and statuses that are told in a way of their own, by their numbers on a slip.
-const PACS_028: u64 = 3;
-
-const PACS_002: u64 = 4;
-
-const PDNG: u64 = 0;
-
-const ACCC: u64 = 1;
-
-const WAITS: u64 = 3;
-
 // What a step was, by its number among the kinds of steps.
-fn put_step_kind<W: Write>(out: &mut W, kind: u64) -> io::Result<()> {
+fn step_name(kind: u64) -> &'static str {
     match kind {
-        1 => out.write_all(b"a pacs.008"),
-        2 => out.write_all(b"a camt.050"),
-        3 => out.write_all(b"a pacs.028"),
-        4 => out.write_all(b"a pacs.002"),
-        _ => out.write_all(b"a set"),
+        PACS_008 => "a pacs.008",
+        CAMT_050 => "a camt.050",
+        PACS_028 => "a pacs.028",
+        PACS_002 => "a pacs.002",
+        _ => "a set",
     }
-}
-
-fn put_moved<W: Write>(out: &mut W, g: Gathered, before: Sight, after: Sight) -> io::Result<()> {
-    let were = before.balances;
-    let are = after.balances;
-    put_changes(out, g, were, are)
 }
 
 // The transfer of a step, and what has become of it.
-fn put_transfer<W: Write>(out: &mut W, step: u64, fate: &[u8]) -> io::Result<()> {
-    put_next(out)?;
-    out.write_all(b"the transfer of step ")?;
-    put_number(out, step)?;
-    out.write_all(fate)
+fn put_transfer<W: Write>(out: &mut W, step: u64, fate: &str) -> io::Result<()> {
+    write!(out, "{NEXT}the transfer of step {step} {fate}")
 }
 
 // A step that was taken back; the transfer that it answered waits again.
-pub fn put_taken_back<W: Write>(
-    out: &mut W,
-    g: Gathered,
-    before: Sight,
-    after: Sight,
-) -> io::Result<()> {
-    let last = before.last;
-    out.write_all(b"step ")?;
-    put_number(out, before.steps)?;
-    out.write_all(b" is taken back; it was ")?;
-    put_step_kind(out, last.kind)?;
-    if last.answers != 0 {
-        put_transfer(out, last.answers, b" waits again")?;
+pub fn put_taken_back<W: Write>(out: &mut W, call: &Call) -> io::Result<()> {
+    if let Some(last) = call.before.last {
+        let name = step_name(last.kind);
+        write!(
+            out,
+            "step {} is taken back; it was {name}",
+            call.before.steps
+        )?;
     }
-    put_moved(out, g, before, after)
+    if let Some(answered) = call.before.answers() {
+        put_transfer(out, answered, "waits again")?;
+    }
+    call.put_changes(out)
 }
 
-// A slip's kind by its number.
+// A slip's kind by its number. The number is a slip's that was read, so it is one of these (the read's promise); `kind_number` in slip names them.
 fn kind_of(number: u64) -> Kind {
     match number {
-        1 => Kind::Pacs008,
-        2 => Kind::Camt050,
-        3 => Kind::Pacs028,
+        PACS_008 => Kind::Pacs008,
+        CAMT_050 => Kind::Camt050,
+        PACS_028 => Kind::Pacs028,
         _ => Kind::Pacs002,
     }
 }
 
-fn put_status<W: Write>(out: &mut W, status: u64) -> io::Result<()> {
+// A slip's status by its number. The number is a slip's that was read, so it is one of these; `status_number` in slip names them.
+fn status_of(number: u64) -> Status {
+    match number {
+        PDNG => Status::Pdng,
+        ACCC => Status::Accc,
+        RJCT => Status::Rjct,
+        _ => Status::Waits,
+    }
+}
+
+fn status_name(status: Status) -> &'static str {
     match status {
-        0 => out.write_all(b"PDNG"),
-        1 => out.write_all(b"ACCC"),
-        2 => out.write_all(b"RJCT"),
-        _ => out.write_all(b"waits"),
+        Status::Pdng => "PDNG",
+        Status::Accc => "ACCC",
+        Status::Rjct => "RJCT",
+        Status::Waits => "waits",
     }
 }
 
-// Whether a slip tells how another message ended: it is a pacs.028 that is not pending.
-fn is_telling(s: Slip) -> bool {
-    (s.kind == PACS_028) & (s.status != PDNG)
+// How a message ended, as its slip says it.
+#[derive(Clone, Copy)]
+struct End {
+    kind: Kind,
+    status: Status,
+    check: u64,
 }
 
-// Whose codes stand beside the check of a slip.
-fn told_of(s: Slip) -> Kind {
-    if is_telling(s) {
-        return Kind::Pacs008;
+impl End {
+    fn of(s: Slip) -> End {
+        End {
+            kind: kind_of(s.kind),
+            status: status_of(s.status),
+            check: s.check,
+        }
     }
-    kind_of(s.kind)
-}
 
-// How a message ended, with its check and what that means.
-fn put_end<W: Write>(out: &mut W, s: Slip) -> io::Result<()> {
-    let kind = kind_of(s.kind);
-    put_kind(out, kind)?;
-    out.write_all(b": ")?;
-    if is_telling(s) {
-        out.write_all(b"the pacs.008 asked after ended with ")?;
+    // Whether it is told how another message ended: by a pacs.028 that is not pending.
+    fn is_telling(&self) -> bool {
+        self.kind == Kind::Pacs028 && self.status != Status::Pdng
     }
-    put_status(out, s.status)?;
-    if s.check == 0 {
-        return Ok(());
+
+    // Whether money was moved.
+    fn is_moved(&self) -> bool {
+        self.status == Status::Accc && self.kind != Kind::Pacs028
     }
-    let told = told_of(s);
-    out.write_all(b" by ")?;
-    put_check(out, told, s.check)?;
-    put_next(out)?;
-    put_meaning(out, s.check)
+
+    // The kind whose codes stand beside the check.
+    fn told(&self) -> Kind {
+        if self.is_telling() {
+            Kind::Pacs008
+        } else {
+            self.kind
+        }
+    }
+
+    // The end, with the check and what that means.
+    fn put<W: Write>(&self, out: &mut W) -> io::Result<()> {
+        write!(out, "{}: ", self.kind)?;
+        if self.is_telling() {
+            out.write_all(b"the pacs.008 asked after ended with ")?;
+        }
+        write!(out, "{}", status_name(self.status))?;
+        if self.check == 0 {
+            return Ok(());
+        }
+        out.write_all(b" by ")?;
+        put_check(out, self.told(), self.check)?;
+        write!(out, "{NEXT}{}", meaning(self.check))
+    }
 }
 
 fn put_slip<W: Write>(out: &mut W, s: Slip) -> io::Result<()> {
-    put_end(out, s)?;
-    put_next(out)?;
-    out.write_all(b"seat ")?;
-    put_number(out, s.seat)?;
-    out.write_all(b", opening number ")?;
-    put_number(out, s.opening)?;
-    out.write_all(b", step ")?;
-    put_number(out, s.step)
+    End::of(s).put(out)?;
+    write!(
+        out,
+        "{NEXT}seat {}, opening number {}, step {}",
+        s.seat, s.opening, s.step
+    )
 }
 
 // The slip that was read.
-pub fn put_said<W: Write>(out: &mut W, answer: Answer) -> io::Result<()> {
-    match answer {
-        Answer::Says(slip) => put_slip(out, slip),
-        _ => Ok(()),
-    }
-}
-
-// Whether the slip of a step says that money was moved.
-fn is_moved(s: Slip) -> bool {
-    (s.status == ACCC) & (s.kind != PACS_028)
-}
-
-// How a message ended, and of a transfer that waits for whom.
-fn put_result<W: Write>(out: &mut W, s: Slip, after: Sight) -> io::Result<()> {
-    let last = after.last;
-    put_end(out, s)?;
-    if is_moved(s) {
-        out.write_all(b", carried out")?;
-    }
-    if s.status == WAITS {
-        out.write_all(b" for the answer of ")?;
-        put_code(out, last.receiver)?;
+pub fn put_said<W: Write>(out: &mut W, done: Done) -> io::Result<()> {
+    if let Done::Says(slip) = done {
+        put_slip(out, slip)?;
     }
     Ok(())
 }
 
-// What an answer did to the transfer of a step, 0 for none.
-fn put_answered<W: Write>(out: &mut W, s: Slip, step: u64) -> io::Result<()> {
-    if step == 0 {
-        put_next(out)?;
-        return out.write_all(b"no transfer was touched");
+// How a message ended, and of a transfer that waits for whom.
+fn put_result<W: Write>(out: &mut W, end: End, call: &Call) -> io::Result<()> {
+    end.put(out)?;
+    if end.is_moved() {
+        out.write_all(b", carried out")?;
     }
-    if s.status == ACCC {
-        return put_transfer(out, step, b" is settled");
+    if let (Status::Waits, Some(last)) = (end.status, call.after.last) {
+        write!(out, " for the answer of {}", Code(last.receiver))?;
     }
-    put_transfer(out, step, b" is rejected by this check")
+    Ok(())
+}
+
+// What an answer did to the transfer of a step.
+fn put_answered<W: Write>(out: &mut W, end: End, answered: Option<u64>) -> io::Result<()> {
+    let Some(step) = answered else {
+        return write!(out, "{NEXT}no transfer was touched");
+    };
+    if end.status == Status::Accc {
+        return put_transfer(out, step, "is settled");
+    }
+    put_transfer(out, step, "is rejected by this check")
 }
 
 fn put_message<W: Write>(
     out: &mut W,
     s: Slip,
     bytes: [u8; SLIP_LONG],
-    g: Gathered,
-    before: Sight,
-    after: Sight,
+    call: &Call,
 ) -> io::Result<()> {
-    let last = after.last;
-    put_result(out, s, after)?;
-    put_next(out)?;
-    out.write_all(b"step ")?;
-    put_number(out, s.step)?;
-    out.write_all(b", slip")?;
+    let end = End::of(s);
+    put_result(out, end, call)?;
+    write!(out, "{NEXT}step {}, slip", s.step)?;
     put_bytes(out, bytes)?;
-    if s.kind == PACS_002 {
-        put_answered(out, s, last.answers)?;
+    if end.kind == Kind::Pacs002 {
+        put_answered(out, end, call.after.answers())?;
     }
-    if is_moved(s) {
-        put_moved(out, g, before, after)?;
+    if end.is_moved() {
+        call.put_changes(out)?;
     }
     Ok(())
 }
 
 // What became of a message, read off its slip.
-pub fn put_submitted<W: Write>(
-    out: &mut W,
-    bytes: [u8; SLIP_LONG],
-    g: Gathered,
-    before: Sight,
-    after: Sight,
-) -> io::Result<()> {
-    let reading = read_slip(&bytes);
-    match reading {
-        Answer::Says(s) => put_message(out, s, bytes, g, before, after),
-        _ => Ok(()),
+pub fn put_submitted<W: Write>(out: &mut W, bytes: [u8; SLIP_LONG], call: &Call) -> io::Result<()> {
+    if let Ok(s) = slip::read(&bytes) {
+        put_message(out, s, bytes, call)?;
     }
+    Ok(())
 }

@@ -1,21 +1,11 @@
 // The refusals 1 to 12 in a pupil's words. Their numbers are those of document 01, "Calls and refusals".
 use crate::fields::{kind_in, put_field};
-use crate::meanings::{put_check, put_meaning};
-use crate::show::{put_next, put_number};
-use centre::Answer;
+use crate::meanings::{meaning, put_check};
+use crate::show::NEXT;
+use centre::Refusal;
 use script::Word;
 use std::io;
 use std::io::Write;
-
-pub fn is_refusal(answer: Answer) -> bool {
-    match answer {
-        Answer::Done => false,
-        Answer::Opened(_opening) => false,
-        Answer::Holds(_account) => false,
-        Answer::Says(_slip) => false,
-        _ => true,
-    }
-}
 
 // 3: what is wrong with a ticket, or with the seat of an opening.
 fn put_no_ticket<W: Write>(out: &mut W, word: Word) -> io::Result<()> {
@@ -43,10 +33,9 @@ fn put_bad_number<W: Write>(out: &mut W, word: Word) -> io::Result<()> {
 }
 
 fn put_ill_formed<W: Write>(out: &mut W, place: usize) -> io::Result<()> {
-    out.write_all(b"refused 7 at place ")?;
-    put_number(out, place as u64)?;
-    out.write_all(
-        b": the sheet is not well formed; before that place all is right, there it goes wrong or ends too soon",
+    write!(
+        out,
+        "refused 7 at place {place}: the sheet is not well formed; before that place all is right, there it goes wrong or ends too soon"
     )
 }
 
@@ -54,44 +43,34 @@ fn put_ill_formed<W: Write>(out: &mut W, place: usize) -> io::Result<()> {
 fn put_not_taken<W: Write>(out: &mut W, check: u64, sheet: &[u8]) -> io::Result<()> {
     out.write_all(b"refused 12, ")?;
     put_check(out, kind_in(sheet), check)?;
-    out.write_all(b": the sender gets no slip")?;
-    put_next(out)?;
-    put_meaning(out, check)
-}
-
-// A refusal that says nothing beside its number.
-fn put_plain<W: Write>(out: &mut W, answer: Answer) -> io::Result<()> {
-    match answer {
-        Answer::RoomUnfit => out.write_all(b"refused 1: the numbers of the room are not right"),
-        Answer::DirectoryUnfit => out.write_all(
-            b"refused 2: the list of banks is not right: 1 to 16 banks, codes rising, each branch and provider under a listed owner",
-        ),
-        Answer::AlreadyOpen => out.write_all(b"refused 4: the seat is open already"),
-        Answer::NoOpeningLeft => out.write_all(
-            b"refused 5: the seat was opened 65535 times, and has no opening number left",
-        ),
-        Answer::JournalFull => out.write_all(b"refused 9: the journal is full, it holds 24 steps"),
-        Answer::NothingToTakeBack => out.write_all(b"refused 10: there is no step to take back"),
-        Answer::NoSlip => out.write_all(
-            b"refused 11: these are not the bytes of a slip, six or five",
-        ),
-        _ => Ok(()),
-    }
+    write!(out, ": the sender gets no slip{NEXT}{}", meaning(check))
 }
 
 // A refused call of a word, with the sheet that it was made with.
 pub fn put_refusal<W: Write>(
     out: &mut W,
-    answer: Answer,
+    refusal: Refusal,
     word: Word,
     sheet: &[u8],
 ) -> io::Result<()> {
-    match answer {
-        Answer::NoTicket => put_no_ticket(out, word),
-        Answer::BadNumber => put_bad_number(out, word),
-        Answer::IllFormed(place) => put_ill_formed(out, place),
-        Answer::BadField(number) => put_field(out, sheet, number),
-        Answer::NotTaken(check) => put_not_taken(out, check, sheet),
-        _ => put_plain(out, answer),
+    match refusal {
+        Refusal::RoomUnfit => out.write_all(b"refused 1: the numbers of the room are not right"),
+        Refusal::DirectoryUnfit => out.write_all(
+            b"refused 2: the list of banks is not right: 1 to 16 banks, codes rising, each branch and provider under a listed owner",
+        ),
+        Refusal::NoTicket => put_no_ticket(out, word),
+        Refusal::AlreadyOpen => out.write_all(b"refused 4: the seat is open already"),
+        Refusal::NoOpeningLeft => out.write_all(
+            b"refused 5: the seat was opened 65535 times, and has no opening number left",
+        ),
+        Refusal::BadNumber => put_bad_number(out, word),
+        Refusal::IllFormed(place) => put_ill_formed(out, place),
+        Refusal::BadField(number) => put_field(out, sheet, number),
+        Refusal::JournalFull => out.write_all(b"refused 9: the journal is full, it holds 24 steps"),
+        Refusal::NothingToTakeBack => out.write_all(b"refused 10: there is no step to take back"),
+        Refusal::NoSlip => out.write_all(
+            b"refused 11: these are not the bytes of a slip, six or five",
+        ),
+        Refusal::NotTaken(check) => put_not_taken(out, check, sheet),
     }
 }

@@ -1,93 +1,77 @@
-// What is put on the page: texts and parts of them, numbers, sums, codes, bytes.
-use class::trimmed;
+// How numbers are put on the page: sums, codes, blocks, limits, and the bytes of a slip.
 use slip::SLIP_LONG;
-use std::io;
 use std::io::Write;
+use std::{fmt, io};
 
-// How wide the number of a line is, the hryvnias of a sum in a column, and the code of a bank.
-const NUMBER_WIDE: usize = 4;
+// What begins a further line of an answer.
+pub const NEXT: &str = "\n      ";
 
-const HRYVNIAS_WIDE: usize = 14;
+// How wide the point of a sum is with the two digits after it.
+const KOPECKS_WIDE: usize = 3;
 
-const CODE_WIDE: usize = 6;
+// A sum of kopecks, as 500.00.
+#[derive(Clone, Copy)]
+pub struct Sum(pub u64);
 
-// The part from one place to another, empty where there is none.
-pub fn part(s: &[u8], from: usize, to: usize) -> &[u8] {
-    if s.len() < to {
-        return &s[..0];
+impl fmt::Display for Sum {
+    fn fmt<W: fmt::Write>(&self, f: &mut fmt::Formatter<W>) -> fmt::Result {
+        let sum = self.0;
+        let wide = f.width().unwrap_or(0).saturating_sub(KOPECKS_WIDE);
+        write!(f, "{:>wide$}.{:02}", sum / 100, sum % 100)
     }
-    if to < from {
-        return &s[..0];
+}
+
+// A limit: 0 for none, n + 1 for a sum of n.
+#[derive(Clone, Copy)]
+pub struct Lpo(pub u64);
+
+impl fmt::Display for Lpo {
+    fn fmt<W: fmt::Write>(&self, f: &mut fmt::Formatter<W>) -> fmt::Result {
+        match self.0.checked_sub(1) {
+            Some(n) => Sum(n).fmt(f),
+            None => f.pad("none"),
+        }
     }
-    &s[from..to]
 }
 
-pub fn put_number<W: Write>(out: &mut W, n: u64) -> io::Result<()> {
-    write!(out, "{n}")
-}
+// Whether money is blocked: 1 for yes.
+#[derive(Clone, Copy)]
+pub struct Block(pub u64);
 
-// A text without the blanks that fill its row of a table.
-pub fn put_row<W: Write>(out: &mut W, text: &[u8]) -> io::Result<()> {
-    out.write_all(trimmed(text))
-}
-
-// How many digits a number has.
-fn digits(n: u64) -> usize {
-    let mut rest = n;
-    let mut count = 1;
-    while 10 <= rest {
-        rest = rest / 10;
-        count += 1;
+impl fmt::Display for Block {
+    fn fmt<W: fmt::Write>(&self, f: &mut fmt::Formatter<W>) -> fmt::Result {
+        f.pad(if self.0 == 1 { "blocked" } else { "free" })
     }
-    count
-}
-
-// A sign so often as a text of one width lacks to another.
-fn fill<W: Write>(out: &mut W, sign: &[u8], width: usize, used: usize) -> io::Result<()> {
-    for _ in used..width {
-        out.write_all(sign)?;
-    }
-    Ok(())
-}
-
-// The number of a line, which begins its answer.
-pub fn put_line_number<W: Write>(out: &mut W, n: u64) -> io::Result<()> {
-    fill(out, b" ", NUMBER_WIDE, digits(n))?;
-    put_number(out, n)?;
-    out.write_all(b"  ")
-}
-
-// A further line of an answer.
-pub fn put_next<W: Write>(out: &mut W) -> io::Result<()> {
-    out.write_all(b"\n      ")
-}
-
-// A sum of kopecks as 500.00.
-pub fn put_sum<W: Write>(out: &mut W, n: u64) -> io::Result<()> {
-    write!(out, "{}.{:02}", n / 100, n % 100)
-}
-
-// The same at the right of a column.
-pub fn put_sum_right<W: Write>(out: &mut W, n: u64) -> io::Result<()> {
-    fill(out, b" ", HRYVNIAS_WIDE, digits(n / 100))?;
-    put_sum(out, n)
 }
 
 // What a sum has over another, which may be below zero.
-pub fn put_difference_right<W: Write>(out: &mut W, n: u64, less: u64) -> io::Result<()> {
-    if less <= n {
-        return put_sum_right(out, n - less);
+#[derive(Clone, Copy)]
+pub struct Difference(pub u64, pub u64);
+
+impl fmt::Display for Difference {
+    fn fmt<W: fmt::Write>(&self, f: &mut fmt::Formatter<W>) -> fmt::Result {
+        let Difference(sum, less) = *self;
+        let wide = f.width().unwrap_or(0).saturating_sub(KOPECKS_WIDE);
+        let below = less.saturating_sub(sum);
+        if below == 0 {
+            return Sum(sum.saturating_sub(less)).fmt(f);
+        }
+        if below < 100 {
+            return write!(f, "{:>wide$}.{:02}", "-0", below);
+        }
+        write!(f, "{:>wide$}.{:02}", -((below / 100) as i64), below % 100)
     }
-    let below = less - n;
-    fill(out, b" ", HRYVNIAS_WIDE - 1, digits(below / 100))?;
-    out.write_all(b"-")?;
-    put_sum(out, below)
 }
 
 // The code of a bank, six digits.
-pub fn put_code<W: Write>(out: &mut W, code: u64) -> io::Result<()> {
-    fill(out, b"0", CODE_WIDE, digits(code))?;
-    put_number(out, code)
+#[derive(Clone, Copy)]
+pub struct Code(pub u64);
+
+impl fmt::Display for Code {
+    fn fmt<W: fmt::Write>(&self, f: &mut fmt::Formatter<W>) -> fmt::Result {
+        let code = self.0;
+        write!(f, "{code:06}")
+    }
 }
 
 // The bytes of a slip, each as two hexadecimal digits in capitals.

@@ -1,15 +1,15 @@
 -- The rows that are left, one after the other, with the path kept as a stack of starts.
 -- Assumes nothing.
-use mathlib.Core.Path.{◌≡◌, refl, ap, ◌∙◌}
+use Rattle.std.specs.Prelude.{Option, Some, None}
+use mathlib.Core.Path.{◌≡◌, refl, ap}
 use mathlib.Core.Bool.{Bool, true, false, cond}
 use mathlib.Core.List.{List, [], ◌∷◌, ◌++◌}
-use mathlib.Core.Option.{Option, none, some}
 use Prim.Native.Nat.{ℕ, zero, suc, ◌+◌, ◌-◌, ◌≤◌, ◌<◌}
 use native.Mathlib.Omega.{arith}
 use native.Mathlib.Numerals.{add-one}
 use lib.Dec.{ltb}
-use lib.ListN.{length, take, drop, get_or, set, length-take, drop_of_length-le}
-use lib.Seq.{drop-cons, get_or-take, get_or-set_same, get_or-set_other}
+use lib.ListN.{length, take, drop, get_or, set, length-take}
+use lib.Seq.{get_or-set_same, get_or-set_other, get_or-take}
 use borrow.Author.Tests.{ltb-true, ltb-false}
 use Rattle.outline.proofs.Walk.{list-goes, list-ends}
 use Rattle.outline.specs.Rows.{Row, name_at, ccy_at, inside_at, text_at, around_at, rows_from, rows_of}
@@ -45,6 +45,17 @@ module _ (s stack : List ℕ) where
 
   names-pushed : (i a : ℕ) → i < length stack → names_of s (set stack i a) (i + 1) ≡ name_at s a ∷ names_of s stack i
   names-pushed i a h = rw (add-one i, get_or-set_same stack i a 0 h, names-kept i a i (omega arith))
+
+  -- the path that stands in front of a stack is the stack's
+  names-front : (n j : ℕ) → j ≤ n → names_of s (take n stack) j ≡ names_of s stack j
+  names-front n zero h = refl
+  names-front n (suc j) h = rw (get_or-take n stack j 0 (omega arith), names-front n j (omega arith))
+
+  pub line-front : (n a : ℕ) → n ≤ length stack
+      → line_with (names_of s (take n stack) (length (take n stack))) (ccy_at s a) (text_at s a) ≡ line_with (names_of s stack n) (ccy_at s a) (text_at s a)
+  line-front n a h =
+      let e : length (take n stack) ≡ n = omega (arith, length-take n stack) in
+      rw (e, names-front n n (omega arith))
 
 -- the rows from the k-th on, behind an element whose path the stack gives
 pub rows_left : List ℕ → ℕ → List ℕ → List ℕ → List ℕ → ℕ → ℕ → List Row
@@ -102,5 +113,5 @@ module _ (s : List ℕ) (count : ℕ) (starts depths stack : List ℕ) where
       turn = (lines-go, fields_go)
 
 pub holds-one : (text : Option (List ℕ)) → holds_text text ≤ 1
-holds-one none = omega arith
-holds-one (some text) = omega arith
+holds-one None = omega arith
+holds-one (Some text) = omega arith

@@ -1,22 +1,22 @@
 -- No listing is longer than 148,236 bytes, so a buffer of that length is never too short.
 -- Assumes nothing.
-use mathlib.Core.Path.{◌≡◌, refl, sym, ap, subst, ◌∙◌}
+use Rattle.std.specs.Prelude.{Option, Some, None}
+use mathlib.Core.Path.{◌≡◌, refl, sym, subst, ◌∙◌}
 use mathlib.Core.Bool.{Bool, true, false, cond}
 use mathlib.Core.List.{List, [], ◌∷◌, ◌++◌, append_assoc, append-nil}
-use mathlib.Core.Option.{Option, none, some}
-use Prim.Native.Nat.{ℕ, suc, ◌+◌, ◌*◌, ◌≤◌, ◌<◌, max}
+use Prim.Native.Nat.{ℕ, suc, ◌+◌, ◌*◌, ◌≤◌}
 use native.Mathlib.Omega.{arith}
 use lib.Dec.{ltb}
 use lib.ListN.{length, length-append, length-take}
 use Rattle.shape.proofs.Loops.{fits-length}
 use Rattle.shape.specs.Patterns.{currency_pattern}
 use Rattle.sheet.specs.Grammar.{name_most, depth_most, sheet_most, Element, leaf, parent, Elements, one, more, opening, render, count_of, count_all}
-use Rattle.sheet.specs.Grammar.{depth_of, depth_all, is_name, is_ccy, is_content, good_parts, good_all, Good, WellFormed, starts_from, depths_from, placed}
+use Rattle.sheet.specs.Grammar.{depth_of, depth_all, is_name, is_ccy, is_content, good_parts, good_all, Good, starts_from, depths_from, placed}
 use Rattle.sheet.specs.Answer.{Reading, accepted, refused, reading_of}
 use Rattle.sheet.specs.Right.{Right, whole, broken, long}
 use Rattle.sheet.proofs.Reading.{reading-right}
 use Rattle.sheet.proofs.Acceptance.Parts.{name-short, name-not-empty, content-short, leaf-name, leaf-ccy, leaf-content, parent-name, parent-children, first_good, others-good}
-use Rattle.outline.specs.Rows.{Row, rows, rows_all, rows_of}
+use Rattle.outline.specs.Rows.{Row, rows, rows_all}
 use Rattle.outline.proofs.OfTree.{rows-of-tree}
 use Rattle.lister.specs.Listing.{path_text, ccy_text, line_with, line_of, lines_of, fields_of, decimal_text, text_of, listing_of}
 use Rattle.lister.specs.Listing.{line_most, listing_most, listed_count}
@@ -32,12 +32,12 @@ path-grows name around k g h = omega (arith, length-append (path_text around) (4
 
 ccy-most : (ccy : Option (List ℕ)) → is_ccy ccy ≡ true → length (ccy_text ccy) ≤ 5
 unfolding is_ccy currency_pattern
-ccy-most none g = omega arith
-ccy-most (some ccy) g = omega (arith, length-append ccy (93 ∷ []), fits-length currency_pattern ccy g)
+ccy-most None g = omega arith
+ccy-most (Some ccy) g = omega (arith, length-append ccy (93 ∷ []), fits-length currency_pattern ccy g)
 
 -- the line of a leaf
 line-most : (path : List (List ℕ)) (ccy : Option (List ℕ)) (text : List ℕ) (k : ℕ) → length (path_text path) ≤ suc name_most * k → k ≤ depth_most
-    → is_ccy ccy ≡ true → is_content text ≡ true → length (line_with path ccy (some text)) ≤ line_most
+    → is_ccy ccy ≡ true → is_content text ≡ true → length (line_with path ccy (Some text)) ≤ line_most
 line-most path ccy text k h few c t =
     omega (
       arith,
@@ -59,11 +59,11 @@ mutual
   lines-most : (e : Element) (i : ℕ) (around : List (List ℕ)) (k : ℕ) → good_parts e ≡ true → length (path_text around) ≤ suc name_most * k
       → k + depth_of e ≤ depth_most → length (lines_of (rows e i around)) ≤ line_most * count_of e
   lines-most (leaf name ccy text) i around k g h deep =
-      rw (append-nil (line_with (name ∷ around) ccy (some text)))
+      rw (append-nil (line_with (name ∷ around) ccy (Some text)))
       (line-most (name ∷ around) ccy text (suc k) (path-grows name around k (leaf-name name ccy text g) h) (omega arith)
       (leaf-ccy name ccy text g) (leaf-content name ccy text g))
   lines-most (parent name es) i around k g h deep =
-      let j : ℕ = i + length (opening name none) in
+      let j : ℕ = i + length (opening name None) in
       let inner : length (lines_of (rows_all es j (name ∷ around))) ≤ line_most * count_all es =
       all_most es j (name ∷ around) (suc k) (parent-children name es g) (path-grows name around k (parent-name name es g) h) (omega arith) in
       omega (arith, inner)

@@ -1,58 +1,35 @@
 -- Parts of a sheet as they are written: byte by byte, and the parts of an element that holds a text.
 -- Assumes nothing.
-use mathlib.Core.Path.{◌≡◌, refl, sym, ap, ◌∙◌}
+use mathlib.Core.Path.{◌≡◌, refl, ap, ◌∙◌}
 use mathlib.Core.Bool.{Bool, true, false, cond}
 use mathlib.Core.List.{List, [], ◌∷◌, ◌++◌}
-use mathlib.Core.Option.{none, some}
-use Prim.Native.Nat.{ℕ, zero, suc, ◌+◌, ◌-◌, ◌≤◌, ◌<◌}
+use Prim.Native.Nat.{ℕ, ◌+◌, ◌-◌, ◌≤◌, ◌<◌}
 use native.Mathlib.Omega.{arith}
 use native.Mathlib.Numerals.{add-one}
-use lib.ListN.{length, take, drop, get_or, drop_of_length-le}
-use lib.Seq.{drop-cons, take-nil, take-length}
-use Rattle.sheet.specs.Grammar.{is_name_byte}
-use Rattle.sheet.specs.Reader.{while}
-use Rattle.outline.specs.Rows.{name_at, ccy_at, text_at}
-use Rattle.outline.specs.declared.Parts.{Parts}
+use lib.ListN.{length, take, drop, get_or, length-drop, drop_of_length-le}
+use lib.Dec.{leb}
+use lib.Seq.{drop-cons}
+use Rattle.std.specs.Prelude.{min}
+use borrow.Author.Tests.{leb-true, leb-false}
+use Rattle.std.proofs.Math.Nat.{min-le_left, min-le_right, min-eq_left, le-min}
+use Rattle.std.proofs.lemmas.List.{take_all}
+use Rattle.outline.specs.Rows.{name_at, ccy_at, inside_at, text_at}
+use Rattle.outline.specs.declared.Leaf.{Leaf}
 use Rattle.shape.specs.Text.{bytes}
-use Rattle.outline.proofs.Shown.{Shows}
-use Rattle.lister.specs.Listing.{path_text, ccy_text, line_with}
+use mir.Val.{bool_byte}
+use Rattle.std.specs.Prelude.{Option, Some, None, is_some}
+use Rattle.std.specs.Option.{option_map}
+use Rattle.outline.specs.Places.{LeafHeld, leaf_shown, leaf_of}
+use Rattle.lister.specs.Listing.{path_text, ccy_text, line_with, holds_text}
 use Rattle.lister.specs.Writing.{names_of}
-use Rattle.lister.proofs.Written.{Still, still-all}
 
--- a part, one byte after the other
-module _ (s : List ℕ) (i to : ℕ) where
-  pub part-goes : i < to → i < length s → take (to - i) (drop i s) ≡ (get_or s i 0 ∷ []) ++ take (to - (i + 1)) (drop (i + 1) s)
-  part-goes h k =
-      let e : to - i ≡ suc (to - (i + 1)) = omega arith in
-      rw (e, drop-cons s i 0 k, add-one i)
+-- a text, one byte after the other
+module _ (s : List ℕ) (i : ℕ) where
+  pub text-goes : i < length s → drop i s ≡ (get_or s i 0 ∷ []) ++ drop (i + 1) s
+  text-goes k = rw (drop-cons s i 0 k, add-one i)
 
-  pub part-ends : length s ≤ i → take (to - i) (drop i s) ≡ []
-  part-ends h = rw (drop_of_length-le s h) (take-nil (to - i))
-
-  pub part-empty : to ≤ i → take (to - i) (drop i s) ≡ []
-  part-empty h = let e : to - i ≡ 0 = omega arith in rw e
-
--- the bytes that pass a test, one after the other
-module _ (f : ℕ → Bool) (s : List ℕ) (i : ℕ) where
-  pub while-goes : i < length s → f (get_or s i 0) ≡ true → while f (drop i s) ≡ (get_or s i 0 ∷ []) ++ while f (drop (i + 1) s)
-  while-goes h e = rw (drop-cons s i 0 h, e, add-one i)
-
-  pub while-stops : i < length s → f (get_or s i 0) ≡ false → while f (drop i s) ≡ []
-  while-stops h e = rw (drop-cons s i 0 h, e)
-
-  pub while-ends : length s ≤ i → while f (drop i s) ≡ []
-  while-ends h = rw (drop_of_length-le s h)
-
-pub no_name : (s : List ℕ) (a : ℕ) → length s ≤ a → name_at s a ≡ []
-unfolding name_at
-no_name s a h = let k : length s ≤ suc a = omega arith in rw (drop_of_length-le s k)
-
-pub name-begins : (out : List ℕ) (n : ℕ) (s : List ℕ) (a : ℕ) → Still out n (name_at s a) out n (while is_name_byte (drop (a + 1) s))
-unfolding name_at
-name-begins out n s a = rw (add-one a) (still-all out n (while is_name_byte (drop (suc a) s)))
-
-pub three : (s : List ℕ) (to : ℕ) → take ((to + 9) - (to + 6)) (drop (to + 6) s) ≡ take 3 (drop (to + 6) s)
-three s to = let e : (to + 9) - (to + 6) ≡ 3 = omega arith in rw e
+  pub text-ends : length s ≤ i → drop i s ≡ []
+  text-ends h = drop_of_length-le s h
 
 -- the path grows by one name, which is printed behind the others
 module _ (s stack : List ℕ) (i : ℕ) where
@@ -62,11 +39,44 @@ module _ (s stack : List ℕ) (i : ℕ) where
   pub path-same : (level : ℕ) → i ≡ level → path_text (names_of s stack i) ≡ path_text (names_of s stack level)
   path-same level e = rw e
 
-pub all_of : (w : List ℕ) → take (length w - 0) w ≡ w
-all_of w = let e : length w - 0 ≡ length w = omega arith in rw e (take-length w)
+-- the line of an element by its leaf, part by part; nothing where there is none
+line_by : List (List ℕ) → Option LeafHeld → List ℕ
+line_by path None = []
+line_by path (Some leaf) = path_text path ++ (ccy_text leaf.ccy ++ (bytes " " ++ (leaf.text ++ bytes "\n")))
 
--- the line of an element that holds a text, part by part
-pub line-there : (s : List ℕ) (a : ℕ) (p : Parts) (path : List (List ℕ)) → Shows s a p
-    → path_text path ++ (ccy_text (cond p.ccy (some (take 3 (drop (p.to + 6) s))) none) ++ (bytes " " ++ (take (p.end - p.inside) (drop p.inside s) ++ bytes "\n")))
-    ≡ line_with path (ccy_at s a) (text_at s a)
-line-there s a p path h = rw (h.ccy, h.shown)
+line-told : (path : List (List ℕ)) (ccy : Option (List ℕ)) (inside : ℕ) (text : Option (List ℕ))
+    → line_by path (option_map (λ t. record { ccy = ccy; inside = inside; text = t }) text) ≡ line_with path ccy text
+unfolding line_by
+line-told path ccy inside None = refl
+line-told path ccy inside (Some text) = refl
+
+module _ (s : List ℕ) (a : ℕ) (path : List (List ℕ)) where
+  pub line-none : None ≡ leaf_of s a → [] ≡ line_with path (ccy_at s a) (text_at s a)
+  unfolding leaf_of line_by
+  line-none e = ap (line_by path) e ∙ line-told path (ccy_at s a) (inside_at s a) (text_at s a)
+
+  pub line-there : (leaf : LeafHeld) → Some leaf ≡ leaf_of s a
+      → path_text path ++ (ccy_text leaf.ccy ++ (bytes " " ++ (leaf.text ++ bytes "\n"))) ≡ line_with path (ccy_at s a) (text_at s a)
+  unfolding leaf_of line_by
+  line-there leaf e = ap (line_by path) e ∙ line-told path (ccy_at s a) (inside_at s a) (text_at s a)
+
+-- how many texts an element holds, by its leaf
+texts_by : Option LeafHeld → ℕ
+texts_by None = 0
+texts_by (Some leaf) = 1
+
+texts-told : (ccy : Option (List ℕ)) (inside : ℕ) (text : Option (List ℕ))
+    → texts_by (option_map (λ t. record { ccy = ccy; inside = inside; text = t }) text) ≡ holds_text text
+unfolding texts_by
+texts-told ccy inside None = refl
+texts-told ccy inside (Some text) = refl
+
+texts-shown : (leaf : Option Leaf) → bool_byte (is_some leaf) ≡ texts_by (leaf_shown leaf)
+unfolding texts_by
+texts-shown None = refl
+texts-shown (Some leaf) = refl
+
+pub holds-leaf : (s : List ℕ) (a : ℕ) (leaf : Option Leaf) → leaf_shown leaf ≡ leaf_of s a
+    → {t : Bool} {n : ℕ} → t ≡ is_some leaf → n ≡ bool_byte t → n ≡ holds_text (text_at s a)
+unfolding leaf_of
+holds-leaf s a leaf e f g = g ∙ ap bool_byte f ∙ texts-shown leaf ∙ ap texts_by e ∙ texts-told (ccy_at s a) (inside_at s a) (text_at s a)

@@ -1,7 +1,6 @@
 -- What the listing program prints: document 01, "The sheet". A line for each text with its path, then how many there are; or the refusal.
 -- Each line ends with a line feed. What a listing is by the grammar alone stands in `Printed.antt`.
-use Rattle.std.specs.Prelude.{cond, List, [], ◌∷◌, ◌++◌, ℕ, suc, ◌+◌, ◌*◌, ◌/◌, ◌%◌, ltb, length, take, drop}
-use Rattle.std.proofs.Math.Option.{Option, none, some}
+use Rattle.std.specs.Prelude.{cond, List, [], ◌∷◌, ◌++◌, ℕ, suc, ◌+◌, ◌*◌, ◌/◌, ◌%◌, ltb, length, take, drop, Option, Some, None}
 use Prim.Native.Char.{code}
 use Rattle.shape.specs.Text.{bytes}
 use Rattle.sheet.specs.Grammar.{name_most, text_most, depth_most, element_most}
@@ -14,13 +13,13 @@ path_text [] = []
 path_text (name ∷ around) = path_text around ++ (bytes "/" ++ name)
 
 abbrev pub ccy_text : Option (List ℕ) → List ℕ
-ccy_text none = []
-ccy_text (some ccy) = bytes "[" ++ (ccy ++ bytes "]")
+ccy_text None = []
+ccy_text (Some ccy) = bytes "[" ++ (ccy ++ bytes "]")
 
 -- what is printed of a row: its line where it holds a text, nothing where it holds elements
 abbrev pub line_with : List (List ℕ) → Option (List ℕ) → Option (List ℕ) → List ℕ
-line_with path ccy none = []
-line_with path ccy (some text) = path_text path ++ (ccy_text ccy ++ (bytes " " ++ (text ++ bytes "\n")))
+line_with path ccy None = []
+line_with path ccy (Some text) = path_text path ++ (ccy_text ccy ++ (bytes " " ++ (text ++ bytes "\n")))
 
 unfoldable pub line_of : Row → List ℕ
 line_of row = line_with row.path row.ccy row.text
@@ -31,8 +30,8 @@ lines_of (row ∷ rows) = line_of row ++ lines_of rows
 
 -- how many rows hold a text
 abbrev pub holds_text : Option (List ℕ) → ℕ
-holds_text none = 0
-holds_text (some text) = 1
+holds_text None = 0
+holds_text (Some text) = 1
 
 unfoldable pub fields_of : List Row → ℕ
 fields_of [] = 0

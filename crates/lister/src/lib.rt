@@ -6,7 +6,7 @@
 mod row;
 mod writer;
 
-ghost use Rattle.std.specs.Prelude.{◌≡◌, ◌++◌, ◌≤◌, length};
+ghost use Rattle.std.specs.Prelude.{◌≡◌, ◌++◌, ◌≤◌};
 ghost use Rattle.shape.specs.Text.{bytes};
 ghost use Rattle.sheet.specs.Grammar.{element_most};
 ghost use Rattle.outline.specs.Rows.{rows_of};
@@ -15,7 +15,7 @@ ghost use Rattle.lister.specs.Writing.{Wrote};
 
 use outline::names_around;
 use row::{put_line, texts_at};
-use sheet::{DEPTH_MOST, ELEMENT_MOST, NAME_MOST, TEXT_MOST, read};
+use sheet::{DEPTH_MOST, ELEMENT_MOST, NAME_MOST, Sheet, TEXT_MOST, read};
 use writer::{put_all, put_decimal};
 
 // The longest line in bytes: a name and a slash at each level, a Ccy in brackets, a blank, a text and a line feed.
@@ -24,7 +24,7 @@ const LINE_MOST: usize = (NAME_MOST + 1) * DEPTH_MOST + 5 + 1 + TEXT_MOST + 1;
 // The longest listing of any sheet in bytes: a line for each element, and the count in four digits and the word after them.
 pub const LISTING_MOST: usize = LINE_MOST * ELEMENT_MOST + 4 + 8;
 
-// The place behind the lines that were written, and how many texts the rows hold.
+// The place after the lines that were written, and how many texts the rows hold.
 #[derive(Clone, Copy)]
 struct Listed {
     to: usize,
@@ -32,30 +32,23 @@ struct Listed {
 }
 
 // The lines of a sheet's rows.
-fn put_lines(
-    out: &mut [u8],
-    s: &[u8],
-    count: usize,
-    starts: &[usize; ELEMENT_MOST],
-    depths: &[usize; ELEMENT_MOST],
-) -> Listed
-    requires { (count ≤ element_most) × (element_most ≤ length starts.now) × (element_most ≤ length depths.now) }
-    ensures wrote { Wrote out.old 0 (lines_of (rows_of s.now count starts.now depths.now)) out.new result.to }
-    ensures fields_value { result.fields ≡ fields_of (rows_of s.now count starts.now depths.now) }
+fn put_lines(out: &mut [u8], s: &[u8], sheet: &Sheet) -> Listed
+    requires { sheet.now.count ≤ element_most }
+    ensures wrote { Wrote out.old 0 (lines_of (rows_of s.now sheet.now.count sheet.now.starts sheet.now.depths)) out.new result.to }
+    ensures fields_value { result.fields ≡ fields_of (rows_of s.now sheet.now.count sheet.now.starts sheet.now.depths) }
 {
     let mut stack = [0usize; ELEMENT_MOST];
     let mut level = 0;
     let mut to = 0;
     let mut fields = 0;
-    let mut k = 0;
-    while k < count {
-        let start = starts[k];
-        level = names_around(depths[k], level);
+    // By number: the two lists have more places than the sheet has elements.
+    for k in 0..sheet.count {
+        let start = sheet.starts[k];
+        level = names_around(sheet.depths[k], level);
         stack[level] = start;
         level += 1;
-        to = put_line(out, to, s, start, &stack, level);
+        to = put_line(out, to, s, start, &stack[..level]);
         fields += texts_at(s, start);
-        k += 1;
     }
     Listed { to, fields }
 }
@@ -83,12 +76,11 @@ pub fn listing(s: &[u8], out: &mut [u8]) -> usize
     ensures value { result ≡ listed_count s.now out.old }
     ensures out_after { out.new ≡ listed_after s.now out.old }
 {
-    let sheet = read(s);
-    if !sheet.accepted {
-        return put_refusal(out, sheet.place);
+    match read(s) {
+        Ok(sheet) => {
+            let listed = put_lines(out, s, &sheet);
+            put_count(out, listed.to, listed.fields)
+        }
+        Err(refused) => put_refusal(out, refused.place),
     }
-    let starts = sheet.starts;
-    let depths = sheet.depths;
-    let listed = put_lines(out, s, sheet.count, &starts, &depths);
-    put_count(out, listed.to, listed.fields)
 }

@@ -1,5 +1,6 @@
-// Writing into a buffer as far as there is room. Each function is given the place to write from and says the place behind.
-ghost use Rattle.std.specs.Prelude.{◌∷◌, [], ◌-◌, take, drop};
+// Writing into a buffer as far as there is room. Each function is given the place to write from and says the place after. The two are no struct:
+// the clauses are `Wrote` of the buffer before and after and of both places.
+ghost use Rattle.std.specs.Prelude.{◌∷◌, []};
 ghost use Rattle.lister.specs.Listing.{ones, decimal_text};
 ghost use Rattle.lister.specs.Writing.{Wrote};
 
@@ -14,27 +15,15 @@ pub fn put(out: &mut [u8], n: usize, b: u8) -> usize
     n
 }
 
-// The bytes of a text from one place to another, or to its end.
-pub fn put_part(out: &mut [u8], n: usize, s: &[u8], from: usize, to: usize) -> usize
-    ensures { Wrote out.old n (take (to - from) (drop from s.now)) out.new result }
-{
-    let mut at = n;
-    let mut i = from;
-    while i < to {
-        if s.len() <= i {
-            return at;
-        }
-        at = put(out, at, s[i]);
-        i += 1;
-    }
-    at
-}
-
 // A whole text.
 pub fn put_all(out: &mut [u8], n: usize, text: &[u8]) -> usize
     ensures { Wrote out.old n text.now out.new result }
 {
-    put_part(out, n, text, 0, text.len())
+    let mut at = n;
+    for b in text {
+        at = put(out, at, *b);
+    }
+    at
 }
 
 // The last digit of a number.
@@ -44,7 +33,8 @@ fn put_ones(out: &mut [u8], n: usize, number: usize) -> usize
     put(out, n, b'0' + (number % 10) as u8)
 }
 
-// A number below ten thousand in decimal digits.
+// A number below ten thousand in decimal digits. A branch for each number of digits, as `decimal_text` has it: of a number of five digits or
+// more it says the last four, which a loop that ends at zero would not.
 pub fn put_decimal(out: &mut [u8], n: usize, number: usize) -> usize
     ensures { Wrote out.old n (decimal_text number) out.new result }
 {

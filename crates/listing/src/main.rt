@@ -3,7 +3,7 @@
 // accepted, and is refused at the same place. The second buffer holds the longest listing that there is (`longest` in `lister/proofs`).
 #![tactic(auto)]
 
-use input::read_full;
+use input::{buffer, read_text};
 use lister::LISTING_MOST;
 use std::io;
 
@@ -11,9 +11,9 @@ use std::io;
 const INPUT_MOST: usize = 65536;
 
 fn main(rt: HostRuntime) -> io::Result<()> {
-    let mut sheet = [0u8; INPUT_MOST];
-    let n = read_full(&mut rt.stdin(), &mut sheet)?;
+    let mut input = buffer::<INPUT_MOST>();
+    let sheet = read_text(&mut rt.stdin(), &mut input)?;
     let mut out = [0u8; LISTING_MOST];
-    let count = lister::listing(&sheet[..n], &mut out);
+    let count = lister::listing(sheet, &mut out);
     rt.write_all(&out[..count])
 }

@@ -1,5 +1,6 @@
 -- What an empty text gives, which is how a part of a message is absent, in this one way only; and that a field which is good is not absent.
 -- Assumes nothing.
+use Rattle.std.specs.Prelude.{ℕ, Option, Some, None}
 use mathlib.Core.Path.{◌≡◌, refl, sym, ap, ◌∙◌}
 use mathlib.Core.Bool.{Bool, true, false, ◌||◌, cond, false≢true}
 use mathlib.Core.List.{List, []}
@@ -10,18 +11,15 @@ use Rattle.shape.specs.Patterns.{fits, code_pattern, currency_pattern, time_patt
 use Rattle.shape.specs.Dates.{time_of}
 use Rattle.shape.specs.Fields.{code_of, is_amount, amount_of, currency_of, account_of, message_code_of, system_of, is_identifier}
 use Rattle.shape.specs.Stored.{identifier_of, is_uetr, uetr_of}
-use Rattle.shape.specs.declared.value.Value.{Value}
-use Rattle.shape.specs.declared.value.Value.TheVariants.{None}
 use Rattle.shape.specs.declared.field.System.{System}
 use Rattle.shape.specs.declared.field.System.TheVariants.{Sep, Asp, Neither}
 use Rattle.shape.specs.declared.stored.Identifier.{Identifier as Stored}
 use Rattle.shape.specs.declared.stored.Uetr.{Uetr as StoredUetr}
 use Rattle.shape.proofs.ReadBack.{identifier-not-zeros, uetr-not-zeros}
 use Rattle.remainder.specs.Remainder.{is_plain, remainder_of}
-use Rattle.remainder.specs.declared.Mod97.TheVariants.{NoIban}
 use Rattle.message.specs.declared.kinds.Shape.TheVariants.{Identifier, Time, Code, System as Listed, Uetr, Amount, GroupStatus}
 use Rattle.message.specs.declared.Reply.{Reply}
-use Rattle.message.specs.declared.Reply.TheVariants.{NoReply, Accepts, Declines, Refuses}
+use Rattle.message.specs.declared.Reply.TheVariants.{Accepts, Declines, Refuses}
 use Rattle.message.specs.Good.{is_given, has_shape}
 use Rattle.message.specs.Message.{name_of, agent_of, accepted_text, rejected_text, reply_of}
 
@@ -67,15 +65,15 @@ pub empty-account : account_of [] ≡ record { digit = 0; code = 0; currency = 0
 unfolding account_of account_pattern fits
 empty-account = refl
 
-pub empty-iban : remainder_of [] ≡ NoIban
+pub empty-iban : remainder_of [] ≡ None
 unfolding remainder_of is_plain
 empty-iban = refl
 
-pub empty-reply : reply_of [] [] ≡ NoReply
+pub empty-reply : reply_of [] [] ≡ None
 unfolding reply_of fits
 empty-reply = refl
 
-given : (v : Value) → is_given v ≡ true → v ≡ None → ⊥
+given : (v : Option ℕ) → is_given v ≡ true → v ≡ None → ⊥
 given v e z = false≢true (sym (ap is_given z) ∙ e)
 
 -- a good code, time, amount, identifier, UETR and system is none of these, and a good GrpSts replies whatever TxSts is
@@ -113,18 +111,15 @@ good-system s e z = false≢true (sym (ap is-listed z) ∙ told (fits sep_patter
     told false true e = refl
     told false false e = e
 
-replies : Reply → Bool
-replies NoReply = false
-replies Accepts = true
-replies Declines = true
-replies Refuses = true
+replies : Option Reply → Bool
+replies None = false
+replies (Some reply) = true
 
-pub good-reply : (s t : List ℕ) → has_shape GroupStatus s ≡ true → reply_of s t ≡ NoReply → ⊥
+pub good-reply : (s t : List ℕ) → has_shape GroupStatus s ≡ true → reply_of s t ≡ None → ⊥
 unfolding has_shape reply_of replies
-good-reply s t e z = false≢true (sym (ap replies z) ∙ told (fits accepted_text s) (fits rejected_text s) (eqb (length t) 0) e)
+good-reply s t e z = false≢true (sym (ap replies z) ∙ told (fits accepted_text s) (fits rejected_text s) e)
   where
-    told : (a r n : Bool) → (a || r) ≡ true → replies (cond a Accepts (cond r (cond n Declines Refuses) NoReply)) ≡ true
-    told true r n e = refl
-    told false true true e = refl
-    told false true false e = refl
-    told false false n e = e
+    told : (a r : Bool) → (a || r) ≡ true → replies (cond a (Some Accepts) (cond r (Some (cond (eqb (length t) 0) Declines Refuses)) None)) ≡ true
+    told true r e = refl
+    told false true e = refl
+    told false false e = e

@@ -1,17 +1,16 @@
 -- A message is made of its parts, each of which is made of the text with its number.
 -- Assumes nothing.
+use Rattle.std.specs.Prelude.{ℕ, Option}
 use mathlib.Core.Path.{◌≡◌}
 use mathlib.Core.List.{List}
 use Prim.Native.Nat.{ℕ}
 use Rattle.shape.specs.Dates.{time_of}
 use Rattle.shape.specs.Fields.{code_of, amount_of, account_of}
 use Rattle.shape.specs.Stored.{identifier_of, uetr_of}
-use Rattle.shape.specs.declared.value.Value.{Value}
 use Rattle.shape.specs.declared.field.Account.{Account}
 use Rattle.shape.specs.declared.stored.Identifier.{Identifier}
 use Rattle.shape.specs.declared.stored.Uetr.{Uetr}
 use Rattle.remainder.specs.Remainder.{remainder_of}
-use Rattle.remainder.specs.declared.Mod97.{Mod97}
 use Rattle.table.specs.declared.Kind.{Kind}
 use Rattle.message.specs.declared.Name.{Name}
 use Rattle.message.specs.declared.Agent.{Agent}
@@ -21,23 +20,23 @@ use Rattle.message.specs.declared.kinds.Numbers.{Numbers}
 use Rattle.message.specs.Fields.{numbers_of}
 use Rattle.message.specs.Message.{name_of, agent_of, reply_of, message_from}
 
-pub built : (kind : Kind) (n : Numbers) (text : ℕ → List ℕ) (currency : Value)
+pub built : (kind : Kind) (n : Numbers) (text : ℕ → List ℕ) (currency : Option ℕ)
     {id : Name}
-    {created : Value}
-    {instructing : Value}
-    {instructed : Value}
+    {created : Option ℕ}
+    {instructing : Option ℕ}
+    {instructed : Option ℕ}
     {reference : Identifier}
     {uetr : Uetr}
-    {amount : Value}
-    {previous : Value}
+    {amount : Option ℕ}
+    {previous : Option ℕ}
     {debtor : Agent}
     {creditor : Agent}
-    {iban : Mod97}
+    {iban : Option ℕ}
     {debit : Account}
     {credit : Account}
     {original : Name}
-    {originated : Value}
-    {reply : Reply}
+    {originated : Option ℕ}
+    {reply : Option Reply}
     → n ≡ numbers_of kind
     → id ≡ name_of (text n.id)
     → created ≡ time_of (text n.created)

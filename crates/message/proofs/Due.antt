@@ -1,5 +1,6 @@
 -- The answer to a sheet is what the sheet is due by the grammar, and a sheet is due no second answer.
 -- Assumes nothing.
+use Rattle.std.specs.Prelude.{Err}
 use mathlib.Core.Path.{◌≡◌, ap, sym, subst}
 use mathlib.Core.List.{List, []}
 use Prim.Native.Nat.{ℕ}
@@ -9,9 +10,9 @@ use Rattle.sheet.specs.Right.{Right, whole, broken, long}
 use Rattle.sheet.proofs.Reading.{reading-right, one_place, formed-not-refused}
 use Rattle.outline.specs.Rows.{Row, rows}
 use Rattle.outline.proofs.OfSheet.{same_rows, rows-of-sheet}
-use Rattle.message.specs.declared.Answer.{Answer}
-use Rattle.message.specs.declared.Answer.TheVariants.{IllFormed}
+use Rattle.message.specs.declared.Refusal.TheVariants.{IllFormed}
 use Rattle.message.specs.Held.{kind_of}
+use Rattle.message.specs.Message.{Answer}
 use Rattle.message.specs.Received.{received_as, received_from, received_of}
 use Rattle.message.specs.Lowest.{Told}
 use Rattle.message.specs.Due.{Due, ill-formed, formed}
@@ -34,7 +35,7 @@ answer-due s = read-due s (reading_of s) (reading-right s)
 
 -- and there is no second one
 pub due-only : (s : List ℕ) (a b : Answer) → Due s a → Due s b → a ≡ b
-due-only s a b (ill-formed place r) (ill-formed other t) = ap IllFormed (one_place s place other r t)
+due-only s a b (ill-formed place r) (ill-formed other t) = ap (λ (k : ℕ). Err (IllFormed k)) (one_place s place other r t)
 due-only s a b (ill-formed place r) (formed w l c t) = absurd (formed-not-refused s w l place r)
 due-only s a b (formed w l c t) (ill-formed place r) = absurd (formed-not-refused s w l place r)
 due-only s a b (formed w l c t) (formed v m d u) =

@@ -1,5 +1,4 @@
 pub mod Absent
-pub mod Amounts
 pub mod Beside
 pub mod Built
 pub mod Due
@@ -9,6 +8,7 @@ pub mod Filled
 pub mod Held
 pub mod Judged
 pub mod Lowest
+pub mod Numbered
 pub mod OfRows
 pub mod Settled
 pub mod Shaped

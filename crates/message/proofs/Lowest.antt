@@ -1,25 +1,22 @@
 -- The answer to a well-formed sheet is the one that document 01 asks for, and no second answer is.
 -- Assumes nothing.
+use Rattle.std.specs.Prelude.{Option, Some, None, Err}
 use mathlib.Core.Path.{◌≡◌, refl, sym, ap, subst, ◌∙◌}
 use mathlib.Core.Bool.{Bool, true, false, ◌&&◌, cond, false≢true}
 use mathlib.Core.List.{List, [], ◌∷◌, map}
 use Prim.Native.Nat.{ℕ, zero, suc, ◌+◌, ◌≤◌, ◌<◌}
 use native.Mathlib.Omega.{arith}
-use lib.Dec.{eqb, ltb}
+use lib.Dec.{ltb}
 use lib.ListN.{length, get_or}
 use borrow.Author.Tests.{ltb-true, ltb-false, ne_eqb}
 use Rattle.outline.specs.Rows.{Row}
 use Rattle.outline.specs.Paths.{standing}
 use Rattle.table.specs.declared.Kind.{Kind}
-use Rattle.message.specs.declared.kinds.Body.{Body}
-use Rattle.message.specs.declared.kinds.Body.TheVariants.{Of, Unknown}
-use Rattle.message.specs.declared.Answer.{Answer}
-use Rattle.message.specs.declared.Answer.TheVariants.{BadField, Good}
-use Rattle.message.specs.declared.Received.{Received}
+use Rattle.message.specs.declared.Refusal.TheVariants.{BadField}
 use Rattle.message.specs.Fields.{Field, no_field, fields_of}
 use Rattle.message.specs.Held.{Held, held_in, kind_of, held_of}
 use Rattle.message.specs.Good.{goes_with, first_bad}
-use Rattle.message.specs.Message.{message_of}
+use Rattle.message.specs.Message.{Answer}
 use Rattle.message.specs.Received.{judged, received_in, received_as}
 use Rattle.message.specs.Lowest.{fine, Bad, Told, unknown, bad, good}
 
@@ -75,8 +72,8 @@ module _ (rows : List Row) (kind : Kind) where
       go false e rest = looked-here f fields k e
 
   -- so of a kind that is known
-  module _ (known : kind_of rows ≡ Of kind) where
-    by_number : (i : ℕ) → (judged kind (held_of kind rows) (suc (0 + i))).answer ≡ BadField (suc i)
+  module _ (known : kind_of rows ≡ Some kind) where
+    by_number : (i : ℕ) → (judged kind (held_of kind rows) (suc (0 + i))).answer ≡ Err (BadField (suc i))
     by_number i =
         let same : suc (0 + i) ≡ suc i = omega arith in
         rw (same, ne_eqb (suc i) 0 (λ e. omega arith))
@@ -89,7 +86,7 @@ module _ (rows : List Row) (kind : Kind) where
     of-looked n (none-bad all) = good kind known (λ j b. false≢true (sym b.faulty ∙ from_zero j true (all j b.numbered)))
     of-looked n (first-bad i h b before) =
         let here : Bad kind rows i = record { numbered = h; faulty = from_zero i false b } in
-        let told-bad : Told rows (BadField (suc i)) = bad kind i known here (λ j c. lowest j c (ltb j i) refl) in
+        let told-bad : Told rows (Err (BadField (suc i))) = bad kind i known here (λ j c. lowest j c (ltb j i) refl) in
         subst (λ (a : Answer). Told rows a) (sym (by_number i)) told-bad
       where
         lowest : (j : ℕ) → Bad kind rows j → (t : Bool) → ltb j i ≡ t → i ≤ j
@@ -101,31 +98,31 @@ module _ (rows : List Row) (kind : Kind) where
     of-kind = of-looked (first_bad goes 1 (fields_of kind) (held (fields_of kind))) (looked (fields_of kind) 0)
 
 module _ (rows : List Row) where
-  of-body : (b : Body) → kind_of rows ≡ b → Told rows (received_as b rows).answer
+  of-body : (b : Option Kind) → kind_of rows ≡ b → Told rows (received_as b rows).answer
   unfolding received_as
-  of-body Unknown e = unknown e
-  of-body (Of kind) e = of-kind rows kind e
+  of-body None e = unknown e
+  of-body (Some kind) e = of-kind rows kind e
 
   -- the answer of the definition is the one that is asked for
   pub told : Told rows (received_as (kind_of rows) rows).answer
   told = of-body (kind_of rows) refl
 
-  kinds-same : (x y : Kind) → kind_of rows ≡ Of x → kind_of rows ≡ Of y → x ≡ y
+  kinds-same : (x y : Kind) → kind_of rows ≡ Some x → kind_of rows ≡ Some y → x ≡ y
   kinds-same x y e f = ap kind-in (sym e ∙ f)
     where
-      kind-in : Body → Kind
-      kind-in (Of kind) = kind
-      kind-in Unknown = x
+      kind-in : Option Kind → Kind
+      kind-in (Some kind) = kind
+      kind-in None = x
 
-  is_known : Body → Bool
-  is_known (Of kind) = true
-  is_known Unknown = false
+  is_known : Option Kind → Bool
+  is_known (Some kind) = true
+  is_known None = false
 
-  never : {A : Type 0} (kind : Kind) → kind_of rows ≡ Unknown → kind_of rows ≡ Of kind → A
+  never : {A : Type 0} (kind : Kind) → kind_of rows ≡ None → kind_of rows ≡ Some kind → A
   unfolding is_known
   never kind e f = absurd (false≢true (ap is_known (sym e ∙ f)))
 
-  moved : (x y : Kind) (i : ℕ) → kind_of rows ≡ Of x → kind_of rows ≡ Of y → Bad y rows i → Bad x rows i
+  moved : (x y : Kind) (i : ℕ) → kind_of rows ≡ Some x → kind_of rows ≡ Some y → Bad y rows i → Bad x rows i
   moved x y i e f b = subst (λ (k : Kind). Bad k rows i) (kinds-same y x f e) b
 
   -- and there is no second one

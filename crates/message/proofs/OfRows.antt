@@ -1,5 +1,6 @@
 -- What the survey of a sheet shows is what its rows say: the kind, and what each field holds.
 -- Assumes nothing.
+use Rattle.std.specs.Prelude.{Some, None}
 use mathlib.Core.Path.{◌≡◌, refl, sym, ap, ◌∙◌}
 use mathlib.Core.Bool.{Bool, true, false, not, cond, false≢true}
 use mathlib.Core.List.{List, [], ◌∷◌, map}
@@ -10,16 +11,14 @@ use lib.ListN.{length, get_or}
 use borrow.Author.Tests.{not-true, eq-eqb, ne_eqb}
 use Rattle.shape.specs.Bytes.{every}
 use Rattle.shape.proofs.Tests.{and_left, and_right}
-use Rattle.sheet.specs.Right.{accepted}
 use Rattle.outline.specs.Rows.{Row, row_on, rows_of}
 use Rattle.outline.specs.Paths.{same_name, same_path, standing, at_depth}
 use Rattle.outline.proofs.Paths.{same-path}
 use Rattle.paths.specs.Tree.{names, firsts, name_of, child_of, node_of}
-use Rattle.paths.specs.Survey.{standing_of}
+use Rattle.paths.specs.Survey.{seen_in}
 use Rattle.paths.proofs.Surveyed.{counted, found, bodies-counted}
 use Rattle.table.specs.declared.Kind.{Kind}
 use Rattle.table.specs.declared.Kind.TheVariants.{Pacs008, Camt050, Pacs028, Pacs002}
-use Rattle.message.specs.declared.kinds.Body.TheVariants.{Of, Unknown}
 use Rattle.message.specs.Fields.{Field, pacs008_fields, camt050_fields, pacs028_fields, pacs002_fields, fields_of, body_of}
 use Rattle.message.specs.Held.{Held, held_in, kind_named, only_kind, kind_of, held_of}
 use Rattle.message.specs.Seen.{held_at, held_seen, bodies_seen, kind_seen}
@@ -84,12 +83,12 @@ alone-counted path row = go (same_path row.path path)
 -- the kind, by how many rows there are below the outer one and how many of them stand at each kind's path
 kind-counted : (rows : List Row) → only_kind rows
     ≡ cond (eqb (length rows) 1)
-    (cond (eqb (length (standing (body_of Pacs008) rows)) 1) (Of Pacs008)
-    (cond (eqb (length (standing (body_of Camt050) rows)) 1) (Of Camt050)
-    (cond (eqb (length (standing (body_of Pacs028) rows)) 1) (Of Pacs028)
-    (cond (eqb (length (standing (body_of Pacs002) rows)) 1) (Of Pacs002)
-    Unknown))))
-    Unknown
+    (cond (eqb (length (standing (body_of Pacs008) rows)) 1) (Some Pacs008)
+    (cond (eqb (length (standing (body_of Camt050) rows)) 1) (Some Camt050)
+    (cond (eqb (length (standing (body_of Pacs028) rows)) 1) (Some Pacs028)
+    (cond (eqb (length (standing (body_of Pacs002) rows)) 1) (Some Pacs002)
+    None))))
+    None
 unfolding only_kind kind_named
 kind-counted [] = refl
 kind-counted (row ∷ []) =
@@ -102,26 +101,26 @@ module _ (s : List ℕ) (n : ℕ) (starts depths : List ℕ) where
 
   held-is : (path : List (List ℕ)) → (node_of path ≡ 0 → ⊥)
       → held_in (standing path rows)
-      ≡ held_at s (get_or (standing_of s (accepted n starts depths)).counts (node_of path) 0) (get_or (standing_of s (accepted n starts depths)).starts (node_of path) 0)
+      ≡ held_at s (get_or (seen_in s n starts depths).counts (node_of path) 0) (get_or (seen_in s n starts depths).starts (node_of path) 0)
   held-is path somewhere =
       rw (counted s n starts depths path somewhere)
       (held-there s path _ (standing path rows) (found s n starts depths path somewhere))
 
   -- what the fields of a kind hold
-  pub held-seen : (kind : Kind) → held_of kind rows ≡ held_seen s kind (standing_of s (accepted n starts depths)).counts (standing_of s (accepted n starts depths)).starts
+  pub held-seen : (kind : Kind) → held_of kind rows ≡ held_seen s kind (seen_in s n starts depths).counts (seen_in s n starts depths).starts
   unfolding held_of held_seen on-tree
   held-seen kind =
       map_same on-tree _ _
       (λ f e. held-is f.path (λ z. false≢true (sym (not-true _ e) ∙ eq-eqb (node_of f.path) 0 z)))
       (fields_of kind) (tested kind)
 
-  body-counted : (kind : Kind) → bodies_seen kind (standing_of s (accepted n starts depths)).counts ≡ length (standing (body_of kind) (at_depth 2 rows))
+  body-counted : (kind : Kind) → bodies_seen kind (seen_in s n starts depths).counts ≡ length (standing (body_of kind) (at_depth 2 rows))
   body-counted kind =
       rw (counted s n starts depths (body_of kind) (body-tested kind).1, ← (body-tested kind).0)
       (ap length (sym (filtered (body_of kind) rows)))
 
   -- the kind
-  pub kind-seen : kind_of rows ≡ kind_seen (standing_of s (accepted n starts depths)).bodies (standing_of s (accepted n starts depths)).counts
+  pub kind-seen : kind_of rows ≡ kind_seen (seen_in s n starts depths).bodies (seen_in s n starts depths).counts
   unfolding kind_of kind_seen
   kind-seen =
       kind-counted (at_depth 2 rows)

@@ -1,10 +1,10 @@
 -- The message of a sheet has well-shaped fields: a sheet is a message only where no field of its kind is bad, and each part of the message is
 -- made of the text of one such field.
 -- Assumes nothing.
+use Rattle.std.specs.Prelude.{ℕ, Option, Some, None, Ok, Err}
 use mathlib.Core.Path.{◌≡◌, refl, ap, subst}
 use mathlib.Core.Bool.{Bool, true, false, not, ◌&&◌, ◌||◌, cond, false≢true}
 use mathlib.Core.List.{List, [], ◌∷◌}
-use mathlib.Core.Option.{none, some}
 use Prim.Native.Nat.{ℕ, zero, suc, ◌+◌, ◌-◌, ◌*◌, ◌≤◌, ◌<◌}
 use native.Mathlib.Omega.{arith}
 use native.Mathlib.Nat.{le_of_suc-le-suc}
@@ -17,8 +17,6 @@ use Rattle.shape.specs.Patterns.{fits, time_pattern}
 use Rattle.shape.specs.Dates.{is_time, time_number, time_of}
 use Rattle.shape.specs.Fields.{whole, point, hundredths, kopecks as kopecks_of, is_amount, amount_of, is_identifier}
 use Rattle.shape.specs.Stored.{identifier_of, is_uetr, uetr_of}
-use Rattle.shape.specs.declared.value.Value.{Value}
-use Rattle.shape.specs.declared.value.Value.TheVariants.{Of, None}
 use Rattle.shape.specs.declared.stored.Identifier.{Identifier}
 use Rattle.shape.specs.declared.stored.Uetr.{Uetr}
 use Rattle.shape.proofs.Tests.{and_left, and_right, in-range}
@@ -32,10 +30,7 @@ use Rattle.message.specs.declared.kinds.Shape.{Shape}
 use Rattle.message.specs.declared.kinds.Shape.TheVariants.{Identifier as Named, Time as Timed, Uetr as Traced, Amount as Paid}
 use Rattle.message.specs.declared.kinds.Ccy.{Ccy}
 use Rattle.message.specs.declared.kinds.Numbers.{Numbers}
-use Rattle.message.specs.declared.Answer.{Answer}
-use Rattle.message.specs.declared.Answer.TheVariants.{IllFormed, BadField, Good}
 use Rattle.message.specs.declared.Reply.{Reply}
-use Rattle.message.specs.declared.Reply.TheVariants.{NoReply}
 use Rattle.message.specs.declared.Message.{Message}
 use Rattle.message.specs.Fields.{
   Field,
@@ -53,7 +48,7 @@ use Rattle.message.specs.Fields.{
 }
 use Rattle.message.specs.Held.{Held, missing, once, doubled, held_in, kind_of, held_of}
 use Rattle.message.specs.Good.{is_given, has_shape, ccy_fits, text_fits, is_good, goes_with}
-use Rattle.message.specs.Message.{text_in, numbered, name_of, message_from, message_of}
+use Rattle.message.specs.Message.{Answer, text_in, numbered, name_of, message_from, message_of}
 use Rattle.message.specs.Received.{received_as, received_from, received_of}
 use Rattle.message.specs.Lowest.{fine, Bad, Told, unknown, bad, good}
 use Rattle.message.proofs.Absent.{no-identifier, no-uetr, empty-identifier, empty-uetr, good-reply}
@@ -70,14 +65,14 @@ pub record IsUetr (x : Uetr) : Type 0 where
   pub good : is_uetr text ≡ true
   pub stored : x ≡ uetr_of text
 
-pub record IsTime (v : Value) : Type 0 where
+pub record IsTime (v : Option ℕ) : Type 0 where
   pub time : ℕ
-  pub given : v ≡ Of time
+  pub given : v ≡ Some time
   pub real : is_time time ≡ true
 
-pub record IsAmount (v : Value) : Type 0 where
+pub record IsAmount (v : Option ℕ) : Type 0 where
   pub kopecks : ℕ
-  pub given : v ≡ Of kopecks
+  pub given : v ≡ Some kopecks
   pub least : 1 ≤ kopecks
   pub most : kopecks ≤ 9999999999999
 
@@ -94,18 +89,18 @@ Referenced Camt050 x = x ≡ no-identifier
 Referenced Pacs028 x = IsIdentifier x
 Referenced Pacs002 x = x ≡ no-identifier
 
-abbrev pub Moves : Kind → Value → Type 0
+abbrev pub Moves : Kind → Option ℕ → Type 0
 Moves Pacs008 v = IsAmount v
 Moves Camt050 v = IsAmount v
 Moves Pacs028 v = Unit {0}
 Moves Pacs002 v = Unit {0}
 
 -- an answer says something of the transfer
-abbrev pub Replies : Kind → Reply → Type 0
+abbrev pub Replies : Kind → Option Reply → Type 0
 Replies Pacs008 r = Unit {0}
 Replies Camt050 r = Unit {0}
 Replies Pacs028 r = Unit {0}
-Replies Pacs002 r = r ≡ NoReply → ⊥
+Replies Pacs002 r = r ≡ None → ⊥
 
 pub record Shaped (m : Message) : Type 0 where
   pub identifier : IsIdentifier m.id.stored
@@ -172,8 +167,8 @@ time-shaped : (s : List ℕ) → has_shape Timed s ≡ true → IsTime (time_of 
 unfolding has_shape time_of
 time-shaped s e = go (fits time_pattern s && is_time (time_number s)) refl e
   where
-    go : (t : Bool) → (fits time_pattern s && is_time (time_number s)) ≡ t → is_given (cond t (Of (time_number s)) None) ≡ true
-        → IsTime (cond t (Of (time_number s)) None)
+    go : (t : Bool) → (fits time_pattern s && is_time (time_number s)) ≡ t → is_given (cond t (Some (time_number s)) None) ≡ true
+        → IsTime (cond t (Some (time_number s)) None)
     go true f g = record { time = time_number s; given = refl; real = and_right (fits time_pattern s) (is_time (time_number s)) f }
     go false f g = absurd (false≢true g)
 
@@ -187,20 +182,18 @@ amount-shaped s e =
 text-shaped : (shape : Shape) (ccy : Ccy) (h : Held) → is_good false shape ccy h ≡ true → has_shape shape (text_in h) ≡ true
 unfolding is_good text_fits text_in
 text-shaped shape ccy missing e = absurd (false≢true e)
-text-shaped shape ccy (once given inside none) e = absurd (false≢true (and_right (ccy_fits ccy given) false e))
-text-shaped shape ccy (once given inside (some text)) e = and_right (ccy_fits ccy given) (text_fits shape (some text)) e
+text-shaped shape ccy (once given inside None) e = absurd (false≢true (and_right (ccy_fits ccy given) false e))
+text-shaped shape ccy (once given inside (Some text)) e = and_right (ccy_fits ccy given) (text_fits shape (Some text)) e
 text-shaped shape ccy doubled e = absurd (false≢true e)
 
 -- whether an answer is a message, and which
 is-good : Answer → Bool
-is-good (IllFormed place) = false
-is-good (BadField number) = false
-is-good (Good message) = true
+is-good (Err reason) = false
+is-good (Ok message) = true
 
 message-in : Message → Answer → Message
-message-in m (IllFormed place) = m
-message-in m (BadField number) = m
-message-in m (Good message) = message
+message-in m (Err reason) = m
+message-in m (Ok message) = message
 
 -- what is not false is true
 holds : (t : Bool) → (t ≡ false → ⊥) → t ≡ true
@@ -280,19 +273,19 @@ module _ (rows : List Row) where
       }
 
   -- an answer that is a message is told of a sheet without a bad field
-  told-shaped : (a : Answer) (m : Message) → Told rows a → a ≡ Good m → Shaped m
+  told-shaped : (a : Answer) (m : Message) → Told rows a → a ≡ Ok m → Shaped m
   unfolding is-good message-in
   told-shaped a m (unknown known) e = absurd (false≢true (ap is-good e))
   told-shaped a m (bad kind i known here low) e = absurd (false≢true (ap is-good e))
   told-shaped a m (good kind known fault) e = subst (λ (x : Message). Shaped x) (ap (message-in m) e) (kind-shaped kind fault)
 
-reading-shaped : (s : List ℕ) (m : Message) (r : Reading) → (received_from s r).answer ≡ Good m → Shaped m
+reading-shaped : (s : List ℕ) (m : Message) (r : Reading) → (received_from s r).answer ≡ Ok m → Shaped m
 unfolding received_from is-good
 reading-shaped s m (refused place) e = absurd (false≢true (ap is-good e))
 reading-shaped s m (accepted n starts depths) e =
     let rows = rows_of s n starts depths in
     told-shaped rows (received_as (kind_of rows) rows).answer m (told rows) e
 
-pub shaped : (s : List ℕ) (m : Message) → (received_of s).answer ≡ Good m → Shaped m
+pub shaped : (s : List ℕ) (m : Message) → (received_of s).answer ≡ Ok m → Shaped m
 unfolding received_of
 shaped s m e = reading-shaped s m (reading_of s) e

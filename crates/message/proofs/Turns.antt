@@ -1,10 +1,13 @@
 -- Going through the fields of a kind one after the other: the first bad field, by what stands at the node of each.
 -- Assumes nothing.
-use mathlib.Core.Path.{◌≡◌, refl, sym, ◌∙◌}
+use Rattle.std.specs.Prelude.{Some, None}
+use mathlib.Core.Path.{◌≡◌, refl, ◌∙◌}
 use mathlib.Core.Bool.{Bool, true, false, ◌&&◌, cond}
 use mathlib.Core.List.{List, ◌∷◌, map}
 use Prim.Native.Nat.{ℕ, ◌+◌, ◌≤◌, ◌<◌}
+use native.Mathlib.Omega.{arith}
 use native.Mathlib.Numerals.{add-one}
+use borrow.Author.Tests.{ne_eqb}
 use lib.ListN.{length, get_or, drop, drop_of_length-le}
 use lib.Seq.{drop-cons}
 use Rattle.table.specs.declared.Kind.{Kind}
@@ -13,7 +16,7 @@ use Rattle.message.specs.declared.kinds.Entry.{Entry}
 use Rattle.message.specs.Fields.{Field, no_field, fields_of}
 use Rattle.message.specs.Held.{Held}
 use Rattle.message.specs.Good.{is_good, goes_with, first_bad, lowest_bad}
-use Rattle.message.specs.Seen.{entry_of, held_at, held_seen}
+use Rattle.message.specs.Seen.{entry_of, held_at, held_seen, bad_number}
 
 -- what stands at the node of a field
 abbrev pub seen_at : List ℕ → List ℕ → List ℕ → Field → Held
@@ -64,9 +67,13 @@ module _ (s : List ℕ) (kind : Kind) (counts starts : List ℕ) where
     pub bad-passes : (good && goes) ≡ true → Left (k + 1)
     bad-passes t = next ∙ rw t
 
-    pub bad-stops : (good && goes) ≡ false → k + 1 ≡ lowest_bad kind held
-    bad-stops t = sym (next ∙ rw t)
+    pub bad-stops : (good && goes) ≡ false → Some (k + 1) ≡ bad_number (lowest_bad kind held)
+    bad-stops t =
+        let e : lowest_bad kind held ≡ k + 1 = next ∙ rw t in
+        rw (e, ne_eqb (k + 1) 0 (λ z. omega arith))
 
-  pub bad-ends : (k : ℕ) → Left k → length (fields_of kind) ≤ k → 0 ≡ lowest_bad kind held
+  pub bad-ends : (k : ℕ) → Left k → length (fields_of kind) ≤ k → None ≡ bad_number (lowest_bad kind held)
   unfolding bad_from first_bad
-  bad-ends k so_far h = sym (so_far ∙ rw (drop_of_length-le (fields_of kind) h))
+  bad-ends k so_far h =
+      let e : lowest_bad kind held ≡ 0 = so_far ∙ rw (drop_of_length-le (fields_of kind) h) in
+      rw e

@@ -1,15 +1,12 @@
 -- When a field is good, and the lowest number of one that is not: document 01, "Fields" and refusal 8.
 -- A field is bad where it is missing and may not be, where its path stands more than once, and where it is ill-shaped: it holds elements, it
 -- has a Ccy and is no amount or has none and is one, or its text is not of its shape.
-use Rattle.std.specs.Prelude.{Bool, true, false, not, ◌&&◌, ◌||◌, cond, List, [], ◌∷◌, ℕ, suc, eqb}
-use Rattle.std.proofs.Math.Option.{Option, none, some}
+use Rattle.std.specs.Prelude.{Bool, true, false, not, ◌&&◌, ◌||◌, cond, List, [], ◌∷◌, ℕ, suc, eqb, Option, Some, None}
 use Rattle.shape.specs.Text.{bytes}
 use Rattle.shape.specs.Patterns.{fits, sep_pattern, asp_pattern, account_pattern}
 use Rattle.shape.specs.Dates.{time_of}
 use Rattle.shape.specs.Fields.{code_of, is_amount, is_iban, is_identifier, names_pacs008}
 use Rattle.shape.specs.Stored.{is_uetr}
-use Rattle.shape.specs.declared.value.Value.{Value}
-use Rattle.shape.specs.declared.value.Value.TheVariants.{Of, None}
 use Rattle.outline.specs.Paths.{characters_of}
 use Rattle.table.specs.declared.Kind.{Kind}
 use Rattle.table.specs.declared.Kind.TheVariants.{Pacs008, Camt050, Pacs028, Pacs002}
@@ -34,8 +31,8 @@ use Rattle.message.specs.Held.{Held, missing, once, doubled, stands}
 use Rattle.message.specs.Message.{text_in, numbered, accepted_text, rejected_text}
 
 -- a value is given
-abbrev pub is_given : Value → Bool
-is_given (Of n) = true
+abbrev pub is_given : Option ℕ → Bool
+is_given (Some n) = true
 is_given None = false
 
 -- the characters have the shape
@@ -54,17 +51,17 @@ has_shape TransactionStatus s = fits rejected_text s
 
 -- a Ccy on amounts alone; in pacs.008 that of the hryvnia
 unfoldable pub ccy_fits : Ccy → Option (List ℕ) → Bool
-ccy_fits Absent none = true
-ccy_fits Absent (some ccy) = false
-ccy_fits Any none = false
-ccy_fits Any (some ccy) = true
-ccy_fits Hryvnia none = false
-ccy_fits Hryvnia (some ccy) = fits (bytes "UAH") ccy
+ccy_fits Absent None = true
+ccy_fits Absent (Some ccy) = false
+ccy_fits Any None = false
+ccy_fits Any (Some ccy) = true
+ccy_fits Hryvnia None = false
+ccy_fits Hryvnia (Some ccy) = fits (bytes "UAH") ccy
 
 -- an element without a text holds elements
 unfoldable pub text_fits : Shape → Option (List ℕ) → Bool
-text_fits shape none = false
-text_fits shape (some text) = has_shape shape (characters_of text)
+text_fits shape None = false
+text_fits shape (Some text) = has_shape shape (characters_of text)
 
 unfoldable pub is_good : Bool → Shape → Ccy → Held → Bool
 is_good optional shape ccy missing = optional

@@ -6,3 +6,4 @@ pub mod Received
 pub mod Seen
 pub mod Lowest
 pub mod Due
+pub mod Words

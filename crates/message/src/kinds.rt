@@ -1,8 +1,7 @@
 // The fields of each kind of message: document 01, "Fields", and request 9 of document 02. A field's number is its place in the kind's table, from 1 on.
 // `tests/tree.py` writes each node, of a body and of a field, from the paths in `specs/Fields.antt`.
-ghost use Rattle.std.specs.Prelude.{◌≡◌, cond, ◌<◌, ◌≤◌, length, get_or};
-ghost use Rattle.paths.specs.Tree.{nodes};
-ghost use Rattle.message.specs.Fields.{no_field, pacs008_fields, camt050_fields, pacs028_fields, pacs002_fields, fields_of, fields_most, numbers_of};
+ghost use Rattle.std.specs.Prelude.{◌≡◌, map};
+ghost use Rattle.message.specs.Fields.{fields_of, numbers_of};
 ghost use Rattle.message.specs.Seen.{entry_of, kind_seen};
 
 use paths::NODES;
@@ -41,13 +40,6 @@ pub struct Entry {
     pub ccy: Ccy,
 }
 
-// What the only element below the outer one names.
-#[derive(Clone, Copy)]
-pub enum Body {
-    Of(Kind),
-    Unknown,
-}
-
 // The numbers of an agent's two fields: which system lists it, and its code.
 #[derive(Clone, Copy)]
 pub struct AgentNumbers {
@@ -55,7 +47,7 @@ pub struct AgentNumbers {
     pub code: usize,
 }
 
-// The numbers of a kind's fields by what they say; 0 for a field that the kind lacks.
+// The numbers of a kind's fields by what they say; 0 for a field that the kind lacks, as the definition `numbers_of` has it.
 #[derive(Clone, Copy)]
 pub struct Numbers {
     pub id: usize,
@@ -97,215 +89,106 @@ const PACS_028_BODY: usize = 5;
 
 const PACS_002_BODY: usize = 6;
 
+// A field of a shape; one that may be missing; an amount, which has a Ccy.
+macro_rules! field {
+    (node: $node:literal, shape: $shape:ident) => {
+        Entry {
+            node: $node,
+            optional: false,
+            shape: Shape::$shape,
+            ccy: Ccy::Absent,
+        }
+    };
+}
+
+macro_rules! optional {
+    (node: $node:literal, shape: $shape:ident) => {
+        Entry {
+            node: $node,
+            optional: true,
+            shape: Shape::$shape,
+            ccy: Ccy::Absent,
+        }
+    };
+}
+
+macro_rules! amount {
+    (node: $node:literal, ccy: $ccy:ident) => {
+        Entry {
+            node: $node,
+            optional: false,
+            shape: Shape::Amount,
+            ccy: Ccy::$ccy,
+        }
+    };
+}
+
 const PACS_008: [Entry; PACS_008_FIELDS] = [
-    Entry {
-        node: 16,
-        optional: false,
-        shape: Shape::Identifier,
-        ccy: Ccy::Absent,
-    },
-    Entry {
-        node: 17,
-        optional: false,
-        shape: Shape::Time,
-        ccy: Ccy::Absent,
-    },
-    Entry {
-        node: 68,
-        optional: false,
-        shape: Shape::Code,
-        ccy: Ccy::Absent,
-    },
-    Entry {
-        node: 69,
-        optional: false,
-        shape: Shape::Code,
-        ccy: Ccy::Absent,
-    },
-    Entry {
-        node: 43,
-        optional: false,
-        shape: Shape::Identifier,
-        ccy: Ccy::Absent,
-    },
-    Entry {
-        node: 44,
-        optional: false,
-        shape: Shape::Uetr,
-        ccy: Ccy::Absent,
-    },
-    Entry {
-        node: 21,
-        optional: false,
-        shape: Shape::Amount,
-        ccy: Ccy::Hryvnia,
-    },
-    Entry {
-        node: 70,
-        optional: true,
-        shape: Shape::Code,
-        ccy: Ccy::Absent,
-    },
-    Entry {
-        node: 78,
-        optional: false,
-        shape: Shape::System,
-        ccy: Ccy::Absent,
-    },
-    Entry {
-        node: 72,
-        optional: false,
-        shape: Shape::Code,
-        ccy: Ccy::Absent,
-    },
-    Entry {
-        node: 62,
-        optional: false,
-        shape: Shape::Iban,
-        ccy: Ccy::Absent,
-    },
-    Entry {
-        node: 79,
-        optional: false,
-        shape: Shape::System,
-        ccy: Ccy::Absent,
-    },
-    Entry {
-        node: 74,
-        optional: false,
-        shape: Shape::Code,
-        ccy: Ccy::Absent,
-    },
-    Entry {
-        node: 64,
-        optional: false,
-        shape: Shape::Iban,
-        ccy: Ccy::Absent,
-    },
+    field!(node: 16, shape: Identifier),
+    field!(node: 17, shape: Time),
+    field!(node: 68, shape: Code),
+    field!(node: 69, shape: Code),
+    field!(node: 43, shape: Identifier),
+    field!(node: 44, shape: Uetr),
+    amount!(node: 21, ccy: Hryvnia),
+    optional!(node: 70, shape: Code),
+    field!(node: 78, shape: System),
+    field!(node: 72, shape: Code),
+    field!(node: 62, shape: Iban),
+    field!(node: 79, shape: System),
+    field!(node: 74, shape: Code),
+    field!(node: 64, shape: Iban),
 ];
 
 const CAMT_050: [Entry; CAMT_050_FIELDS] = [
-    Entry {
-        node: 27,
-        optional: false,
-        shape: Shape::Identifier,
-        ccy: Ccy::Absent,
-    },
-    Entry {
-        node: 28,
-        optional: false,
-        shape: Shape::Time,
-        ccy: Ccy::Absent,
-    },
-    Entry {
-        node: 50,
-        optional: false,
-        shape: Shape::Uetr,
-        ccy: Ccy::Absent,
-    },
-    Entry {
-        node: 51,
-        optional: false,
-        shape: Shape::Amount,
-        ccy: Ccy::Any,
-    },
-    Entry {
-        node: 80,
-        optional: false,
-        shape: Shape::Account,
-        ccy: Ccy::Absent,
-    },
-    Entry {
-        node: 81,
-        optional: false,
-        shape: Shape::Account,
-        ccy: Ccy::Absent,
-    },
+    field!(node: 27, shape: Identifier),
+    field!(node: 28, shape: Time),
+    field!(node: 50, shape: Uetr),
+    amount!(node: 51, ccy: Any),
+    field!(node: 80, shape: Account),
+    field!(node: 81, shape: Account),
 ];
 
 const PACS_028: [Entry; PACS_028_FIELDS] = [
-    Entry {
-        node: 30,
-        optional: false,
-        shape: Shape::Identifier,
-        ccy: Ccy::Absent,
-    },
-    Entry {
-        node: 31,
-        optional: false,
-        shape: Shape::Time,
-        ccy: Ccy::Absent,
-    },
-    Entry {
-        node: 77,
-        optional: false,
-        shape: Shape::Code,
-        ccy: Ccy::Absent,
-    },
-    Entry {
-        node: 55,
-        optional: false,
-        shape: Shape::Identifier,
-        ccy: Ccy::Absent,
-    },
-    Entry {
-        node: 56,
-        optional: false,
-        shape: Shape::Original,
-        ccy: Ccy::Absent,
-    },
-    Entry {
-        node: 57,
-        optional: false,
-        shape: Shape::Time,
-        ccy: Ccy::Absent,
-    },
-    Entry {
-        node: 34,
-        optional: false,
-        shape: Shape::Uetr,
-        ccy: Ccy::Absent,
-    },
-    Entry {
-        node: 35,
-        optional: false,
-        shape: Shape::Identifier,
-        ccy: Ccy::Absent,
-    },
+    field!(node: 30, shape: Identifier),
+    field!(node: 31, shape: Time),
+    field!(node: 77, shape: Code),
+    field!(node: 55, shape: Identifier),
+    field!(node: 56, shape: Original),
+    field!(node: 57, shape: Time),
+    field!(node: 34, shape: Uetr),
+    field!(node: 35, shape: Identifier),
 ];
 
 const PACS_002: [Entry; PACS_002_FIELDS] = [
-    Entry {
-        node: 36,
-        optional: false,
-        shape: Shape::Identifier,
-        ccy: Ccy::Absent,
-    },
-    Entry {
-        node: 37,
-        optional: false,
-        shape: Shape::Time,
-        ccy: Ccy::Absent,
-    },
-    Entry {
-        node: 38,
-        optional: false,
-        shape: Shape::Identifier,
-        ccy: Ccy::Absent,
-    },
-    Entry {
-        node: 39,
-        optional: false,
-        shape: Shape::GroupStatus,
-        ccy: Ccy::Absent,
-    },
-    Entry {
-        node: 40,
-        optional: true,
-        shape: Shape::TransactionStatus,
-        ccy: Ccy::Absent,
-    },
+    field!(node: 36, shape: Identifier),
+    field!(node: 37, shape: Time),
+    field!(node: 38, shape: Identifier),
+    field!(node: 39, shape: GroupStatus),
+    optional!(node: 40, shape: TransactionStatus),
 ];
+
+const NO_AGENT: AgentNumbers = AgentNumbers { system: 0, code: 0 };
+
+const NO_NUMBERS: Numbers = Numbers {
+    id: 0,
+    created: 0,
+    instructing: 0,
+    instructed: 0,
+    reference: 0,
+    uetr: 0,
+    amount: 0,
+    previous: 0,
+    debtor: NO_AGENT,
+    creditor: NO_AGENT,
+    iban: 0,
+    debit: 0,
+    credit: 0,
+    original: 0,
+    originated: 0,
+    group: 0,
+    transaction: 0,
+};
 
 // No part of a message is made of field 11 of pacs.008, the IBAN of DbtrAcct, which only has to have its shape.
 const PACS_008_NUMBERS: Numbers = Numbers {
@@ -326,130 +209,53 @@ const PACS_008_NUMBERS: Numbers = Numbers {
         code: 13,
     },
     iban: 14,
-    debit: 0,
-    credit: 0,
-    original: 0,
-    originated: 0,
-    group: 0,
-    transaction: 0,
+    ..NO_NUMBERS
 };
 
 const CAMT_050_NUMBERS: Numbers = Numbers {
     id: 1,
     created: 2,
-    instructing: 0,
-    instructed: 0,
-    reference: 0,
     uetr: 3,
     amount: 4,
-    previous: 0,
-    debtor: AgentNumbers { system: 0, code: 0 },
-    creditor: AgentNumbers { system: 0, code: 0 },
-    iban: 0,
     debit: 5,
     credit: 6,
-    original: 0,
-    originated: 0,
-    group: 0,
-    transaction: 0,
+    ..NO_NUMBERS
 };
 
 const PACS_028_NUMBERS: Numbers = Numbers {
     id: 1,
     created: 2,
     instructing: 3,
-    instructed: 0,
-    reference: 8,
-    uetr: 7,
-    amount: 0,
-    previous: 0,
-    debtor: AgentNumbers { system: 0, code: 0 },
-    creditor: AgentNumbers { system: 0, code: 0 },
-    iban: 0,
-    debit: 0,
-    credit: 0,
     original: 4,
     originated: 6,
-    group: 0,
-    transaction: 0,
+    uetr: 7,
+    reference: 8,
+    ..NO_NUMBERS
 };
 
 const PACS_002_NUMBERS: Numbers = Numbers {
     id: 1,
     created: 2,
-    instructing: 0,
-    instructed: 0,
-    reference: 0,
-    uetr: 0,
-    amount: 0,
-    previous: 0,
-    debtor: AgentNumbers { system: 0, code: 0 },
-    creditor: AgentNumbers { system: 0, code: 0 },
-    iban: 0,
-    debit: 0,
-    credit: 0,
     original: 3,
-    originated: 0,
     group: 4,
     transaction: 5,
+    ..NO_NUMBERS
 };
 
-fn pacs_008(place: usize) -> Entry
-    requires { place < length pacs008_fields }
-    ensures { result ≡ entry_of (get_or pacs008_fields place no_field) }
-{
-    PACS_008[place]
-}
-
-fn camt_050(place: usize) -> Entry
-    requires { place < length camt050_fields }
-    ensures { result ≡ entry_of (get_or camt050_fields place no_field) }
-{
-    CAMT_050[place]
-}
-
-fn pacs_028(place: usize) -> Entry
-    requires { place < length pacs028_fields }
-    ensures { result ≡ entry_of (get_or pacs028_fields place no_field) }
-{
-    PACS_028[place]
-}
-
-fn pacs_002(place: usize) -> Entry
-    requires { place < length pacs002_fields }
-    ensures { result ≡ entry_of (get_or pacs002_fields place no_field) }
-{
-    PACS_002[place]
-}
-
-// How many fields a kind has.
-pub fn field_count(kind: Kind) -> usize
-    ensures value { result ≡ length (fields_of kind) }
-    ensures upper_bound { result ≤ fields_most }
+// The fields of a kind.
+pub fn fields_of(kind: Kind) -> &'static [Entry]
+    ensures { result.now ≡ map entry_of (fields_of kind) }
 {
     match kind {
-        Kind::Pacs008 => PACS_008_FIELDS,
-        Kind::Camt050 => CAMT_050_FIELDS,
-        Kind::Pacs028 => PACS_028_FIELDS,
-        Kind::Pacs002 => PACS_002_FIELDS,
-    }
-}
-
-// The field at a place of a kind's table.
-pub fn entry_at(kind: Kind, place: usize) -> Entry
-    requires { place < length (fields_of kind) }
-    ensures value { result ≡ entry_of (get_or (fields_of kind) place no_field) }
-    ensures node_lt_nodes { result.node < nodes }
-{
-    match kind {
-        Kind::Pacs008 => pacs_008(place),
-        Kind::Camt050 => camt_050(place),
-        Kind::Pacs028 => pacs_028(place),
-        Kind::Pacs002 => pacs_002(place),
+        Kind::Pacs008 => &PACS_008,
+        Kind::Camt050 => &CAMT_050,
+        Kind::Pacs028 => &PACS_028,
+        Kind::Pacs002 => &PACS_002,
     }
 }
 
 // The numbers of a kind's fields.
+#[tactic(auto, unfolding(crate::specs::Fields::numbers_of))]
 pub fn numbers_of(kind: Kind) -> Numbers
     ensures { result ≡ numbers_of kind }
 {
@@ -461,25 +267,22 @@ pub fn numbers_of(kind: Kind) -> Numbers
     }
 }
 
-// The kind, by the number of elements below the outer one and by how often each kind's own stands.
-pub fn kind_of(bodies: usize, counts: &[usize; NODES]) -> Body
-    requires { nodes ≤ length counts.now }
+// The kind, by the number of elements below the outer one and by how often each kind's own stands. A loop over four pairs is no plainer than four tests.
+#[tactic(auto, unfolding(crate::specs::Seen::kind_seen, crate::specs::Fields::body_of, outline::specs::Paths::same_name, paths::specs::Tree::names, paths::specs::Tree::firsts, paths::specs::Tree::name_of, paths::specs::Tree::child_of, paths::specs::Tree::node_of))]
+pub fn kind_of(bodies: usize, counts: &[usize; NODES]) -> Option<Kind>
     ensures { result ≡ kind_seen bodies counts.now }
 {
     if bodies != 1 {
-        return Body::Unknown;
+        None
+    } else if counts[PACS_008_BODY] == 1 {
+        Some(Kind::Pacs008)
+    } else if counts[CAMT_050_BODY] == 1 {
+        Some(Kind::Camt050)
+    } else if counts[PACS_028_BODY] == 1 {
+        Some(Kind::Pacs028)
+    } else if counts[PACS_002_BODY] == 1 {
+        Some(Kind::Pacs002)
+    } else {
+        None
     }
-    if counts[PACS_008_BODY] == 1 {
-        return Body::Of(Kind::Pacs008);
-    }
-    if counts[CAMT_050_BODY] == 1 {
-        return Body::Of(Kind::Camt050);
-    }
-    if counts[PACS_028_BODY] == 1 {
-        return Body::Of(Kind::Pacs028);
-    }
-    if counts[PACS_002_BODY] == 1 {
-        return Body::Of(Kind::Pacs002);
-    }
-    Body::Unknown
 }

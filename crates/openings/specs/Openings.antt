@@ -1,13 +1,12 @@
 -- What an account opens with, request 2 of document 02: an LPO equal to its opening sum, or none where that is 0. One table of cases, in the words
 -- of `cases`, and one statement over it. Seat 3 is opened first in every case, with 500.00 and 100.00 for 300001 and nothing for 300002.
-use Rattle.std.specs.Prelude.{List, [], ◌∷◌, map, ◌≡◌, ℕ}
+use Rattle.std.specs.Prelude.{List, [], ◌∷◌, map, ◌≡◌, ℕ, None}
 use Prim.Native.String.{String}
 use Rattle.table.specs.declared.Kind.TheVariants.{Pacs008, Pacs002}
 use Rattle.slip.specs.declared.Status.TheVariants.{Accc, Rjct, Waits}
 use Rattle.layout.specs.declared.rows.Account.{Account}
 use Rattle.layout.specs.Seat.{seat_of, with_seat, with_account}
 use Rattle.journal.specs.Steps.{no_settings}
-use Rattle.seat.specs.declared.settings.Limit.TheVariants.{None}
 use Rattle.seat.specs.Fit.{open_account}
 use Rattle.centre.specs.Answers.{refused}
 use Rattle.demands.specs.Calls.{close, set, take_back, read, Call, opening, under}

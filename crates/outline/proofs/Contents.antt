@@ -1,9 +1,9 @@
 -- What an element holds: a text where one stands behind its tag, none where a child's `<` does.
 -- Assumes nothing.
+use Rattle.std.specs.Prelude.{Some, None}
 use mathlib.Core.Path.{◌≡◌, refl, ap, ◌∙◌}
 use mathlib.Core.Bool.{true, false}
 use mathlib.Core.List.{List, [], ◌∷◌, ◌++◌, append_assoc}
-use mathlib.Core.Option.{none, some}
 use Prim.Native.Nat.{ℕ, ◌≤◌}
 use native.Mathlib.Omega.{arith}
 use lib.ListN.{length, get_or, drop}
@@ -28,7 +28,7 @@ text-first [] rest g h = absurd (omega arith)
 text-first (b ∷ t) rest g h = and_left (is_text b) (every is_text t) g
 
 -- a text that ends at a `<` is read
-pub text-read : (s : List ℕ) (a : ℕ) (text rest : List ℕ) → is_content text ≡ true → drop (inside_at s a) s ≡ text ++ (60 ∷ rest) → text_at s a ≡ some text
+pub text-read : (s : List ℕ) (a : ℕ) (text rest : List ℕ) → is_content text ≡ true → drop (inside_at s a) s ≡ text ++ (60 ∷ rest) → text_at s a ≡ Some text
 unfolding text_at
 text-read s a text rest g e =
     let there : has_text s a ≡ true = told-by-first s a (text ++ (60 ∷ rest)) e ∙ text-first text (60 ∷ rest) (text-bytes text g) (text-some text g) in
@@ -39,8 +39,8 @@ mutual
   unfolding render render_all
 
   element-first : (e : Element) (rest : List ℕ) → get_or (render e ++ rest) 0 0 ≡ 60
-  element-first (leaf name none text) rest = refl
-  element-first (leaf name (some ccy) text) rest = refl
+  element-first (leaf name None text) rest = refl
+  element-first (leaf name (Some ccy) text) rest = refl
   element-first (parent name es) rest = refl
 
   elements-first : (es : Elements) (rest : List ℕ) → get_or (render_all es ++ rest) 0 0 ≡ 60
@@ -48,7 +48,7 @@ mutual
   elements-first (more e es) rest = rw append_assoc (element-first e (render_all es ++ rest))
 
 -- where children stand, no text is read
-pub no-text-read : (s : List ℕ) (a : ℕ) (es : Elements) (rest : List ℕ) → drop (inside_at s a) s ≡ render_all es ++ rest → text_at s a ≡ none
+pub no-text-read : (s : List ℕ) (a : ℕ) (es : Elements) (rest : List ℕ) → drop (inside_at s a) s ≡ render_all es ++ rest → text_at s a ≡ None
 unfolding text_at
 no-text-read s a es rest e =
     let none-there : has_text s a ≡ false = told-by-first s a (render_all es ++ rest) e ∙ ap is_text (elements-first es rest) ∙ left-no-text in

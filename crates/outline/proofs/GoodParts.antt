@@ -1,9 +1,9 @@
 -- All the bytes of a name, and how many a Ccy has.
 -- Assumes nothing.
+use Rattle.std.specs.Prelude.{Some}
 use mathlib.Core.Path.{◌≡◌}
 use mathlib.Core.Bool.{true, ◌&&◌, false≢true}
 use mathlib.Core.List.{List, [], ◌∷◌}
-use mathlib.Core.Option.{some}
 use Prim.Native.Nat.{ℕ}
 use lib.Dec.{leb}
 use lib.ListN.{length}
@@ -22,6 +22,6 @@ name-bytes (b ∷ w) g =
     rw (or_left (is_letter b) (is_digit b) (and_left (is_letter b) (every is_name_byte w) begins), and_right (is_letter b) (every is_name_byte w) begins)
 
 -- a Ccy is three bytes
-pub ccy-three : (ccy : List ℕ) → is_ccy (some ccy) ≡ true → length ccy ≡ 3
+pub ccy-three : (ccy : List ℕ) → is_ccy (Some ccy) ≡ true → length ccy ≡ 3
 unfolding is_ccy currency_pattern
 ccy-three ccy g = fits-length currency_pattern ccy g

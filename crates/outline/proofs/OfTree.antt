@@ -1,9 +1,9 @@
 -- The rows that are read off what a good tree is written as are the tree's.
 -- Assumes nothing.
+use Rattle.std.specs.Prelude.{Option, Some, None}
 use mathlib.Core.Path.{◌≡◌, refl, sym, ap, ◌∙◌}
 use mathlib.Core.Bool.{true}
 use mathlib.Core.List.{List, [], ◌∷◌, ◌++◌, append_assoc, append-nil}
-use mathlib.Core.Option.{Option, none, some}
 use Prim.Native.Nat.{ℕ, suc, ◌+◌}
 use lib.ListN.{length, take, drop}
 use lib.Seq.{take_at}
@@ -35,19 +35,19 @@ mutual
   rows-of-element (leaf name ccy text) s i rest inner around starts depths g stands =
       let behind : List ℕ = text ++ (closing name ++ rest) in
       let tag : Opens s i name ccy behind = opening-read s i name ccy behind (leaf-name name ccy text g) (leaf-ccy name ccy text g) (stands ∙ simp append_assoc) in
-      row_read s i inner around name ccy (some text) (i + length (opening name ccy)) starts depths tag.named tag.with-ccy tag.behind
+      row_read s i inner around name ccy (Some text) (i + length (opening name ccy)) starts depths tag.named tag.with-ccy tag.behind
       (text-read s i text _ (leaf-text name ccy text g) tag.holds)
   rows-of-element (parent name es) s i rest inner around starts depths g stands =
       let behind : List ℕ = render_all es ++ (closing name ++ rest) in
-      let from-tag : drop i s ≡ opening name none ++ behind = stands ∙ simp append_assoc in
-      let tag : Opens s i name none behind = opening-read s i name none behind (parent-name name es g) refl from-tag in
-      let j : ℕ = i + length (opening name none) in
+      let from-tag : drop i s ≡ opening name None ++ behind = stands ∙ simp append_assoc in
+      let tag : Opens s i name None behind = opening-read s i name None behind (parent-name name es g) refl from-tag in
+      let j : ℕ = i + length (opening name None) in
       let d : ℕ = suc (suc (length around)) in
-      row_read s i inner around name none none j (starts_all es j ++ starts) (depths_all es d ++ depths) tag.named tag.with-ccy tag.behind
+      row_read s i inner around name None None j (starts_all es j ++ starts) (depths_all es d ++ depths) tag.named tag.with-ccy tag.behind
       (no-text-read s i es (closing name ++ rest) tag.holds)
-      ∙ ap (λ (r : List Row). record { path = name ∷ around; ccy = none; inside = j; text = none } ∷ r)
+      ∙ ap (λ (r : List Row). record { path = name ∷ around; ccy = None; inside = j; text = None } ∷ r)
       (rows-of-elements es s j (closing name ++ rest) [] (name ∷ around) starts depths (parent-children name es g)
-      (stands-behind s (opening name none) behind i from-tag)
+      (stands-behind s (opening name None) behind i from-tag)
       ∙ rw append_assoc)
 
   -- so it is with elements side by side

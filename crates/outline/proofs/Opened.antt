@@ -1,9 +1,9 @@
 -- Where an opening tag stands, its name and its Ccy are read, and its content is found behind it.
 -- Assumes nothing.
+use Rattle.std.specs.Prelude.{Option, Some, None}
 use mathlib.Core.Path.{◌≡◌, refl, ◌∙◌}
 use mathlib.Core.Bool.{true, false}
 use mathlib.Core.List.{List, [], ◌∷◌, ◌++◌, append_assoc}
-use mathlib.Core.Option.{Option, none, some}
 use Prim.Native.Nat.{ℕ, suc, ◌+◌}
 use native.Mathlib.Numerals.{add-one}
 use native.Mathlib.Omega.{arith}
@@ -52,7 +52,7 @@ unfolding is_name_byte is_letter is_capital is_small is_digit
 blank-no-name = refl
 
 -- a tag without a Ccy
-opens-without-ccy : (s : List ℕ) (a : ℕ) (name rest : List ℕ) → is_name name ≡ true → drop a s ≡ opening name none ++ rest → Opens s a name none rest
+opens-without-ccy : (s : List ℕ) (a : ℕ) (name rest : List ℕ) → is_name name ≡ true → drop a s ≡ opening name None ++ rest → Opens s a name None rest
 unfolding ccy_at inside_at name_end
 opens-without-ccy s a name rest g e =
     let good = name-bytes name g in
@@ -67,8 +67,8 @@ opens-without-ccy s a name rest g e =
     }
 
 -- a tag with a Ccy
-opens-with-ccy : (s : List ℕ) (a : ℕ) (name ccy rest : List ℕ) → is_name name ≡ true → is_ccy (some ccy) ≡ true
-    → drop a s ≡ opening name (some ccy) ++ rest → Opens s a name (some ccy) rest
+opens-with-ccy : (s : List ℕ) (a : ℕ) (name ccy rest : List ℕ) → is_name name ≡ true → is_ccy (Some ccy) ≡ true
+    → drop a s ≡ opening name (Some ccy) ++ rest → Opens s a name (Some ccy) rest
 unfolding ccy_at inside_at name_end
 opens-with-ccy s a name ccy rest g k e =
     let good = name-bytes name g in
@@ -92,5 +92,5 @@ opens-with-ccy s a name ccy rest g k e =
 -- what an opening tag says is read where it stands
 pub opening-read : (s : List ℕ) (a : ℕ) (name : List ℕ) (ccy : Option (List ℕ)) (rest : List ℕ) → is_name name ≡ true → is_ccy ccy ≡ true
     → drop a s ≡ opening name ccy ++ rest → Opens s a name ccy rest
-opening-read s a name none rest g k e = opens-without-ccy s a name rest g e
-opening-read s a name (some ccy) rest g k e = opens-with-ccy s a name ccy rest g k e
+opening-read s a name None rest g k e = opens-without-ccy s a name rest g e
+opening-read s a name (Some ccy) rest g k e = opens-with-ccy s a name ccy rest g k e

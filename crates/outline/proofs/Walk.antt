@@ -9,7 +9,7 @@ use native.Mathlib.Numerals.{add-one}
 use lib.Dec.{ltb}
 use lib.ListN.{length, take, drop, get_or, length-take, drop_of_length-le}
 use lib.Seq.{drop-cons, get_or-take}
-use borrow.Author.Tests.{ltb-true, ltb-false, lt-ltb}
+use borrow.Author.Tests.{ltb-true, lt-ltb}
 
 -- what is left of a list of which so many are gone through: its next place, then the rest; nothing at the end
 pub list-goes : (l : List ℕ) (count k : ℕ) → k < count → k < length l → drop k (take count l) ≡ get_or l k 0 ∷ drop (k + 1) (take count l)

@@ -1,8 +1,7 @@
 -- A sheet as rows, one for each element in the sheet's order: its path of names, its Ccy or none, where its content begins, its text or none.
 -- Rows of a tree, and rows read off a sheet's bytes by the places where its elements start and the depths at which they stand.
 -- That the two are the same on what a good tree is written as is the theorem of `proofs/`.
-use Rattle.std.specs.Prelude.{Bool, true, false, cond, List, [], ◌∷◌, ◌++◌, ℕ, suc, ◌+◌, ◌-◌, eqb, length, get_or, take, drop}
-use Rattle.std.proofs.Math.Option.{Option, none, some}
+use Rattle.std.specs.Prelude.{Bool, cond, List, [], ◌∷◌, ◌++◌, ℕ, suc, ◌+◌, ◌-◌, eqb, length, get_or, take, drop, Option, Some, None}
 use Prim.Native.Char.{code}
 use Rattle.shape.specs.Bytes.{is_text}
 use Rattle.sheet.specs.Grammar.{Element, leaf, parent, Elements, one, more, opening, render, is_name_byte}
@@ -19,10 +18,10 @@ pub record Row : Type 0 where
 unfoldable mutual
   pub rows : Element → ℕ → List (List ℕ) → List Row
   rows (leaf name ccy text) i around =
-      record { path = name ∷ around; ccy = ccy; inside = i + length (opening name ccy); text = some text } ∷ []
+      record { path = name ∷ around; ccy = ccy; inside = i + length (opening name ccy); text = Some text } ∷ []
   rows (parent name es) i around =
-      record { path = name ∷ around; ccy = none; inside = i + length (opening name none); text = none }
-      ∷ rows_all es (i + length (opening name none)) (name ∷ around)
+      record { path = name ∷ around; ccy = None; inside = i + length (opening name None); text = None }
+      ∷ rows_all es (i + length (opening name None)) (name ∷ around)
 
   pub rows_all : Elements → ℕ → List (List ℕ) → List Row
   rows_all (one e) i around = rows e i around
@@ -40,7 +39,7 @@ has_ccy s a = eqb (get_or s (name_end s a) 0) (code " ")
 
 -- ` Ccy="UAH">` is eleven bytes, `>` one; the three capitals stand behind six
 unfoldable pub ccy_at : List ℕ → ℕ → Option (List ℕ)
-ccy_at s a = cond (has_ccy s a) (some (take 3 (drop (name_end s a + 6) s))) none
+ccy_at s a = cond (has_ccy s a) (Some (take 3 (drop (name_end s a + 6) s))) None
 
 unfoldable pub inside_at : List ℕ → ℕ → ℕ
 inside_at s a = name_end s a + cond (has_ccy s a) 11 1
@@ -49,7 +48,7 @@ unfoldable pub has_text : List ℕ → ℕ → Bool
 has_text s a = is_text (get_or s (inside_at s a) 0)
 
 unfoldable pub text_at : List ℕ → ℕ → Option (List ℕ)
-text_at s a = cond (has_text s a) (some (while is_text (drop (inside_at s a) s))) none
+text_at s a = cond (has_text s a) (Some (while is_text (drop (inside_at s a) s))) None
 
 -- the names around an element at depth d, where the one before it has this path: the outer d - 1 of them
 abbrev pub around_at : ℕ → List (List ℕ) → List (List ℕ)

@@ -1,7 +1,7 @@
 -- What a survey says of the rows of a sheet: how many stand at a path, which one if it is one, and how many right below the outer one.
 -- Each is shown of the rows behind any path, on top of anything that was seen before.
 -- Assumes nothing.
-use mathlib.Core.Path.{◌≡◌, refl, sym, ap, ◌∙◌}
+use mathlib.Core.Path.{◌≡◌, refl, sym, ap, ◌∙◌, subst}
 use mathlib.Core.Bool.{Bool, true, false, cond, false≢true}
 use mathlib.Core.List.{List, [], ◌∷◌}
 use Prim.Native.Nat.{ℕ, ◌+◌}
@@ -14,7 +14,9 @@ use Rattle.outline.specs.Rows.{Row, name_at, around_at, row_on, rows_from, rows_
 use Rattle.outline.specs.Paths.{same_path, standing, at_depth}
 use Rattle.outline.proofs.Paths.{same-path, path-same}
 use Rattle.paths.specs.Tree.{nowhere, nodes, node_of}
-use Rattle.paths.specs.Survey.{unseen, noted, seen_from, standing_of, survey_of}
+use Rattle.paths.specs.Survey.{unseen, noted, seen_from, seen_in, standing_of, survey_of}
+use Rattle.std.specs.Prelude.{Ok}
+use Rattle.sheet.proofs.Descent.{not-read}
 use Rattle.paths.specs.declared.Standing.{Standing}
 use Rattle.paths.proofs.Nodes.{node-below, one-path}
 
@@ -95,8 +97,8 @@ module _ (s : List ℕ) (q : List (List ℕ)) (somewhere : node_of q ≡ nowhere
 
 -- a node's count is the number of rows at its path
 pub counted : (s : List ℕ) (n : ℕ) (starts depths : List ℕ) (q : List (List ℕ)) → (node_of q ≡ nowhere → ⊥)
-    → get_or (standing_of s (accepted n starts depths)).counts (node_of q) 0 ≡ length (standing q (rows_of s n starts depths))
-unfolding standing_of rows_of
+    → get_or (seen_in s n starts depths).counts (node_of q) 0 ≡ length (standing q (rows_of s n starts depths))
+unfolding rows_of
 counted s n starts depths q somewhere =
     counted-from s q somewhere [] (take n starts) (take n depths) unseen refl
     ∙ rw (get_or-replicate {A = ℕ} nodes (node_of q) 0 0 (node-below q)) (omega arith)
@@ -104,8 +106,8 @@ counted s n starts depths q somewhere =
 -- where that is one, the node's start gives the row
 pub found : (s : List ℕ) (n : ℕ) (starts depths : List ℕ) (q : List (List ℕ)) → (node_of q ≡ nowhere → ⊥)
     → length (standing q (rows_of s n starts depths)) ≡ 1
-    → standing q (rows_of s n starts depths) ≡ row_on s q (get_or (standing_of s (accepted n starts depths)).starts (node_of q) 0) ∷ []
-unfolding standing_of rows_of
+    → standing q (rows_of s n starts depths) ≡ row_on s q (get_or (seen_in s n starts depths).starts (node_of q) 0) ∷ []
+unfolding rows_of
 found s n starts depths q somewhere one = found_from s q somewhere [] (take n starts) (take n depths) unseen refl one
 
 body-goes : (b : ℕ) (row : Row) (rest : List Row) (t : Bool) → b + cond t 1 0 + length rest ≡ b + length (cond t (row ∷ rest) rest)
@@ -124,8 +126,8 @@ bodies-from s path (a ∷ more) (d ∷ ds) seen =
 
 -- the bodies are the rows with two names in their path
 pub bodies-counted : (s : List ℕ) (n : ℕ) (starts depths : List ℕ)
-    → (standing_of s (accepted n starts depths)).bodies ≡ length (at_depth 2 (rows_of s n starts depths))
-unfolding standing_of rows_of
+    → (seen_in s n starts depths).bodies ≡ length (at_depth 2 (rows_of s n starts depths))
+unfolding rows_of
 bodies-counted s n starts depths = bodies-from s [] (take n starts) (take n depths) unseen ∙ omega arith
 
 -- the lists of a survey have a place for each node
@@ -138,11 +140,13 @@ long-from s path (a ∷ more) (d ∷ ds) seen h k =
     let here = name_at s a ∷ around_at d path in
     long-from s here more ds (noted here a seen) (rw length-set h) (rw length-set k)
 
-long-read : (s : List ℕ) (r : Reading) → (length (standing_of s r).counts ≡ nodes) × (length (standing_of s r).starts ≡ nodes)
+long-read : (s : List ℕ) (r : Reading) (seen : Standing) → standing_of s r ≡ Ok seen → (length seen.counts ≡ nodes) × (length seen.starts ≡ nodes)
 unfolding standing_of
-long-read s (refused k) = (refl, refl)
-long-read s (accepted n starts depths) = long-from s [] (take n starts) (take n depths) unseen refl refl
+long-read s (refused k) seen e = absurd (not-read e)
+long-read s (accepted n starts depths) seen e =
+    let same : seen_in s n starts depths ≡ seen = cc in
+    subst (λ (x : Standing). (length x.counts ≡ nodes) × (length x.starts ≡ nodes)) same (long-from s [] (take n starts) (take n depths) unseen refl refl)
 
-pub survey-long : (s : List ℕ) → (length (survey_of s).counts ≡ nodes) × (length (survey_of s).starts ≡ nodes)
+pub survey-long : (s : List ℕ) (seen : Standing) → survey_of s ≡ Ok seen → (length seen.counts ≡ nodes) × (length seen.starts ≡ nodes)
 unfolding survey_of
-survey-long s = long-read s (reading_of s)
+survey-long s seen e = long-read s (reading_of s) seen e

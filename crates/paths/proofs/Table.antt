@@ -9,7 +9,6 @@ use native.Mathlib.Nat.{le_of_suc-le-suc}
 use lib.Dec.{eqb, leb}
 use lib.ListN.{length, get_or}
 use borrow.Author.Tests.{eqb-true, leb-true}
-use Rattle.shape.specs.Bytes.{every}
 use Rattle.shape.proofs.Tests.{and_left, and_right, at_place}
 use Rattle.paths.specs.Tree.{nodes, name_wide, names, firsts}
 
@@ -71,12 +70,3 @@ firsts-from v h = from_first 2 firsts refl v h
 pub firsts-low : (v : ℕ) → v < nodes + 1 → get_or firsts v 0 ≤ nodes
 unfolding firsts
 firsts-low v h = leb-true (get_or firsts v 0) nodes (at_place (λ (x : ℕ). leb x nodes) firsts 0 refl v h)
-
--- how many entries the tables have
-pub names-count : length names ≡ nodes
-unfolding names
-names-count = refl
-
-pub firsts-count : length firsts ≡ nodes + 1
-unfolding firsts
-firsts-count = refl

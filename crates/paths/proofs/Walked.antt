@@ -6,6 +6,7 @@ use mathlib.Core.List.{List, [], ◌∷◌}
 use Prim.Native.Nat.{ℕ, zero, suc, ◌+◌, ◌-◌, ◌<◌, ◌≤◌}
 use native.Mathlib.Omega.{arith}
 use native.Mathlib.Numerals.{add-one}
+use mir.Val.{bool_byte}
 use lib.Dec.{eqb, ltb}
 use lib.ListN.{length, get_or, take, drop, set, replicate, length-drop, length-set}
 use lib.Seq.{drop-drop, get_or-set_same, get_or-set_other}
@@ -25,7 +26,7 @@ path_before s starts depths (suc k) = name_at s (get_or starts k 0) ∷ around_a
 
 -- what was noted up to here
 abbrev pub so_far : ℕ → List ℕ → List ℕ → Standing
-so_far bodies counts places = record { accepted = true; place = 0; bodies = bodies; counts = counts; starts = places }
+so_far bodies counts places = record { bodies = bodies; counts = counts; starts = places }
 
 -- at the k-th element: the stack has the node of each front of the path, and what is left makes the whole of what was noted
 pub record Walked (s : List ℕ) (count : ℕ) (starts depths stack : List ℕ) (level bodies : ℕ) (counts places : List ℕ) (k : ℕ) : Type 0 where
@@ -62,6 +63,11 @@ raised l k w h b v = go (eqb v w) refl
 pub one_at_most : (t : Bool) → cond t 1 0 ≤ 1
 one_at_most true = omega arith
 one_at_most false = omega arith
+
+-- one for an element right below the outer one
+pub one_body : (t : Bool) → bool_byte t ≡ cond t 1 0
+one_body true = refl
+one_body false = refl
 
 -- the names around an element at depth d are so many as the stack is cut down to
 cut_down : (d level j : ℕ) → j ≡ cond (ltb (d - 1) level) (d - 1) level → level - (d - 1) ≡ level - j

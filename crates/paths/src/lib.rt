@@ -5,96 +5,59 @@
 
 mod tree;
 
-ghost use Rattle.std.specs.Prelude.{◌≡◌, cond, [], ◌≤◌, eqb, length, take};
-ghost use Rattle.sheet.specs.Answer.{refused};
+ghost use Rattle.std.specs.Prelude.{◌≡◌, [], ◌≤◌, take};
 ghost use Rattle.sheet.specs.Grammar.{element_most};
-ghost use Rattle.paths.specs.Survey.{unseen, seen_from, standing_of, survey_of};
+ghost use Rattle.paths.specs.Survey.{unseen, seen_from, survey_of};
 
 use outline::{name_at, names_around};
-use sheet::{ELEMENT_MOST, read};
+use sheet::{ELEMENT_MOST, Refused, Sheet, read};
 pub use tree::NODES;
-use tree::{ABOVE, all_firsts, all_names, child};
+use tree::{ABOVE, child};
 
-// What was seen of a sheet. Refused, it has its place and nothing else; accepted, the number of elements right below the outer one, and for
-// each node how often it stands and where it starts the last time.
+// How many names are in the path of an element right below the outer one.
+const BODY_LEVEL: usize = 2;
+
+// What was seen of a sheet: the number of elements right below the outer one, and for each node how often it stands and where it starts the
+// last time. Two lists and no pairs: `unseen` and `noted` have them so.
 #[derive(Clone, Copy)]
 pub struct Standing {
-    pub accepted: bool,
-    pub place: usize,
     pub bodies: usize,
     pub counts: [usize; NODES],
     pub starts: [usize; NODES],
 }
 
-fn unread(place: usize) -> Standing
-    ensures { result ≡ standing_of [] (refused place) }
-{
-    Standing {
-        accepted: false,
-        place,
-        bodies: 0,
-        counts: [0; NODES],
-        starts: [0; NODES],
-    }
-}
-
-// One for an element right below the outer one.
-fn is_body(level: usize) -> usize
-    ensures { result ≡ cond (eqb level 2) 1 0 }
-{
-    if level == 2 {
-        return 1;
-    }
-    0
-}
-
 // The elements of a read sheet. The stack has the node of each open element, that of the top first.
-fn walk(
-    s: &[u8],
-    count: usize,
-    starts: &[usize; ELEMENT_MOST],
-    depths: &[usize; ELEMENT_MOST],
-) -> Standing
-    requires { (count ≤ element_most) × (element_most ≤ length starts.now) × (element_most ≤ length depths.now) }
-    ensures { result ≡ seen_from s.now [] (take count starts.now) (take count depths.now) unseen }
+fn walk(s: &[u8], sheet: &Sheet) -> Standing
+    requires { sheet.now.count ≤ element_most }
+    ensures { result ≡ seen_from s.now [] (take sheet.now.count sheet.now.starts) (take sheet.now.count sheet.now.depths) unseen }
 {
-    let names = all_names();
-    let firsts = all_firsts();
     let mut stack = [ABOVE; ELEMENT_MOST + 1];
     let mut level = 0;
     let mut bodies = 0;
     let mut counts = [0usize; NODES];
-    let mut places = [0usize; NODES];
-    let mut k = 0;
-    while k < count {
-        let start = starts[k];
-        level = names_around(depths[k], level);
-        let node = child(&names, &firsts, stack[level], name_at(s, start));
+    let mut starts = [0usize; NODES];
+    // By number: the two lists have more places than the sheet has elements.
+    for k in 0..sheet.count {
+        let start = sheet.starts[k];
+        level = names_around(sheet.depths[k], level);
+        let node = child(stack[level], name_at(s, start));
         level += 1;
         stack[level] = node;
-        bodies += is_body(level);
+        bodies += usize::from(level == BODY_LEVEL);
         counts[node] += 1;
-        places[node] = start;
-        k += 1;
+        starts[node] = start;
     }
     Standing {
-        accepted: true,
-        place: 0,
         bodies,
         counts,
-        starts: places,
+        starts,
     }
 }
 
 // Reads a sheet and goes through its elements once.
-pub fn survey(s: &[u8]) -> Standing
+pub fn survey(s: &[u8]) -> Result<Standing, Refused>
     ensures { result ≡ survey_of s.now }
 {
-    let sheet = read(s);
-    if !sheet.accepted {
-        return unread(sheet.place);
-    }
-    let starts = sheet.starts;
-    let depths = sheet.depths;
-    walk(s, sheet.count, &starts, &depths)
+    let sheet = read(s)?;
+    Ok(walk(s, &sheet))
 }

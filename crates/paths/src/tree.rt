@@ -2,10 +2,11 @@
 // The nodes stand breadth first: those below a node stand side by side, from the node's first one up to the next node's first one.
 // Node 0 is nowhere: no path of the tree. Node 1 stands above the outer element.
 // `tests/tree.py` writes the numbers and the two tables from the paths in `message/specs/Fields.antt`.
-ghost use Rattle.std.specs.Prelude.{◌≡◌, [], ◌+◌, ◌<◌, ◌≤◌, get_or};
+ghost use Rattle.std.specs.Prelude.{◌≡◌, ◌<◌};
 ghost use Rattle.outline.specs.Paths.{same_name};
-ghost use Rattle.paths.specs.Tree.{nodes, names, firsts, name_of, child_of};
+ghost use Rattle.paths.specs.Tree.{nodes, name_of, child_of};
 
+// A node like the others, which is counted too: `child_of` gives it for a name that no path has.
 pub const NOWHERE: usize = 0;
 
 pub const ABOVE: usize = 1;
@@ -16,8 +17,8 @@ pub const NODES: usize = 82;
 // The bytes of a name with the blanks after it, of which there is one at least.
 const NAME_WIDE: usize = 18;
 
-// The name of each node, with blanks after it.
-const NAMES: [[u8; NAME_WIDE]; NODES] = [
+// The name of each node, with blanks after it; no slices, since the definition `names` has it so and `tests/tree.py` writes both.
+static NAMES: [[u8; NAME_WIDE]; NODES] = [
     *b"                  ",
     *b"                  ",
     *b"Document          ",
@@ -103,79 +104,40 @@ const NAMES: [[u8; NAME_WIDE]; NODES] = [
 ];
 
 // The first node below each node; one entry more, where the last one's end.
-const FIRSTS: [usize; NODES + 1] = [
+static FIRSTS: [usize; NODES + 1] = [
     2, 2, 3, 7, 9, 11, 13, 16, 20, 27, 29, 30, 33, 36, 38, 40, 41, 41, 41, 42, 43, 45, 45, 46, 47,
     48, 49, 50, 50, 50, 54, 54, 54, 55, 58, 58, 58, 58, 58, 58, 58, 58, 59, 60, 60, 60, 61, 62, 63,
     64, 65, 65, 65, 66, 67, 68, 68, 68, 68, 69, 70, 71, 73, 73, 75, 75, 76, 77, 78, 78, 78, 78, 79,
     79, 80, 80, 81, 82, 82, 82, 82, 82, 82,
 ];
 
-// Both tables as values: they are written out anew wherever one is asked for, so a survey asks once and lends them.
-pub fn all_names() -> [[u8; NAME_WIDE]; NODES]
-    ensures { result ≡ names }
-{
-    NAMES
-}
-
-pub fn all_firsts() -> [usize; NODES + 1]
-    ensures { result ≡ firsts }
-{
-    FIRSTS
-}
-
-fn line(lines: &[[u8; NAME_WIDE]; NODES], node: usize) -> [u8; NAME_WIDE]
-    requires { (lines.now ≡ names) × (node < nodes) }
-    ensures { result ≡ get_or names node [] }
-{
-    lines[node]
-}
-
-fn first(starts: &[usize; NODES + 1], node: usize) -> usize
-    requires { (starts.now ≡ firsts) × (node < nodes + 1) }
-    ensures value { result ≡ get_or firsts node 0 }
-    ensures upper_bound { result ≤ nodes }
-{
-    starts[node]
-}
-
 // Whether a name is the node's. A blank ends the node's name and is in no other.
-fn is_named(lines: &[[u8; NAME_WIDE]; NODES], node: usize, name: &[u8]) -> bool
-    requires { (lines.now ≡ names) × (node < nodes) }
+fn is_named(node: usize, name: &[u8]) -> bool
+    requires { node < nodes }
     ensures { result ≡ same_name (name_of node) name.now }
 {
     if NAME_WIDE <= name.len() {
         return false;
     }
-    let l = line(lines, node);
-    let mut i = 0;
-    while i < name.len() {
-        let b = name[i];
-        if (l[i] != b) | (b == b' ') {
+    let line = &NAMES[node];
+    for (i, b) in name.iter().enumerate() {
+        if line[i] != *b || *b == b' ' {
             return false;
         }
-        i += 1;
     }
-    l[i] == b' '
+    line[name.len()] == b' '
 }
 
 // The node of a name below a node, or nowhere.
-pub fn child(
-    lines: &[[u8; NAME_WIDE]; NODES],
-    starts: &[usize; NODES + 1],
-    node: usize,
-    name: &[u8],
-) -> usize
-    requires { (lines.now ≡ names) × (starts.now ≡ firsts) × (node < nodes) }
+pub fn child(node: usize, name: &[u8]) -> usize
+    requires { node < nodes }
     ensures value { result ≡ child_of node name.now }
     ensures upper_bound { result < nodes }
 {
-    let end = first(starts, node + 1);
-    let mut below = first(starts, node);
-    while below < end {
-        if is_named(lines, below, name) {
+    for below in FIRSTS[node]..FIRSTS[node + 1] {
+        if is_named(below, name) {
             return below;
         }
-        below += 1;
     }
     NOWHERE
 }

@@ -3,32 +3,37 @@
 // The program only plays and prints; what each call does is proved in `seat`, what a step does in `journal`.
 #![tactic(auto)]
 
-ghost use Rattle.std.specs.Prelude.{◌≤◌, ◌≡◌, true};
+ghost use Rattle.std.specs.Prelude.{◌≤◌, ◌≡◌, true, length};
 ghost use Rattle.directory.specs.Directory.{records_most};
+ghost use Rattle.layout.specs.Seat.{seat_long};
 ghost use Rattle.seat.specs.Calls.{place_fits};
+ghost use Rattle.seat.specs.Fit.{seat_fits};
 
-use directory::{Found, Gathered, Kind, Participant, RECORDS_MOST};
-use journal::{append, is_possible};
-use layout::rows::{Account, Settings, Step};
-use layout::{ROOM_LONG, SEAT_LONG, account, head};
+use directory::{Gathered, Kind, Listed, Participant, no_records};
+use journal::{append, is_possible, no_step};
+use layout::rows::{Account, Step};
+use layout::{ROOM_LONG, SEAT_LONG, account, head, seat_from};
 use seat::{
-    Answer, Limit, Wish, close_seat, open_seat, room_fits, seat_fits, set_account, settings_of,
-    take_back,
+    Refusal, Wish, close_seat, open_seat, room_fits, seat_fits, set_account, settings_of, take_back,
 };
 use shape::stored::{Identifier, Uetr, identifier_of, uetr_of};
-use slip::STEPS;
+use slip::{ACCC, CAMT_050, STEPS};
 use std::io;
 
+// The code of the first of the two owners.
+const FIRST_OWNER: u64 = 300001;
+
+// The seat in which the lesson is played.
+const LESSON_SEAT: usize = 3;
+
+// How many accounts two owners have.
+const ACCOUNTS_SHOWN: usize = 4;
+
 // The number of an answer in the table of refusals.
-fn number_of(answer: Answer) -> u64 {
+fn number_of(answer: Result<(), Refusal>) -> u64 {
     match answer {
-        Answer::Done => 0,
-        Answer::NoTicket => 3,
-        Answer::AlreadyOpen => 4,
-        Answer::NoOpeningLeft => 5,
-        Answer::BadNumber => 6,
-        Answer::JournalFull => 9,
-        Answer::NothingToTakeBack => 10,
+        Ok(()) => 0,
+        Err(refusal) => centre::Refusal::from(refusal).number(),
     }
 }
 
@@ -39,7 +44,7 @@ fn show(rt: &impl Print, s: &[u64]) -> io::Result<()> {
     }
     let h = head(s);
     println!(rt; " {} {} {}", h.opening, h.opened, h.steps)?;
-    for i in 0..4 {
+    for i in 0..ACCOUNTS_SHOWN {
         show_account(rt, account(s, i))?;
     }
     Ok(())
@@ -55,10 +60,9 @@ fn show_account(rt: &impl Print, a: Account) -> io::Result<()> {
     )
 }
 
-fn tell(rt: &impl Print, call: &[u8], answer: Answer) -> io::Result<()> {
-    let number = number_of(answer);
+fn tell(rt: &impl Print, call: &[u8], answer: Result<(), Refusal>) -> io::Result<()> {
     rt.write_all(call)?;
-    print!(rt; " {number}")
+    print!(rt; " {}", number_of(answer))
 }
 
 fn owner(code: u64) -> Participant {
@@ -70,100 +74,54 @@ fn owner(code: u64) -> Participant {
 }
 
 // Two owners.
+#[tactic(auto, unfolding(directory::specs::Gathering::added))]
 fn class() -> Gathered
     ensures { result.count ≤ records_most }
 {
-    let mut records = [owner(0); RECORDS_MOST];
-    records[0] = owner(300001);
-    records[1] = owner(300002);
-    Gathered { count: 2, records }
+    no_records()
+        .with(owner(FIRST_OWNER))
+        .with(owner(FIRST_OWNER + 1))
 }
 
-fn play_open(rt: &impl Print, s: &mut [u64], sums: &[u64]) -> io::Result<()> {
+// Makes a call in a fit seat, and shows its answer and the seat after it.
+fn play<F: FnOnce(&mut [u64]) -> Result<(), Refusal>>(
+    rt: &impl Print,
+    s: &mut [u64],
+    name: &[u8],
+    call: F,
+) -> io::Result<()>
+    requires { (seat : _) → length seat.now ≡ seat_long → seat_fits seat.now ≡ true → F.pre call seat }
+{
     if !seat_fits(s) {
         return Ok(());
     }
-    tell(rt, b"open", open_seat(s, class(), sums))?;
-    show(rt, s)
-}
-
-fn play_close(rt: &impl Print, s: &mut [u64], opening: u64) -> io::Result<()> {
-    if !seat_fits(s) {
-        return Ok(());
-    }
-    tell(rt, b"close", close_seat(s, opening))?;
-    show(rt, s)
-}
-
-fn play_back(rt: &impl Print, s: &mut [u64], opening: u64) -> io::Result<()> {
-    if !seat_fits(s) {
-        return Ok(());
-    }
-    tell(rt, b"back", take_back(s, opening))?;
+    tell(rt, name, call(s))?;
     show(rt, s)
 }
 
 // The record of the first owner.
-fn first_owner() -> Found
+fn first_owner() -> Option<Listed>
     ensures { place_fits result ≡ true }
 {
-    Found::At(0, owner(300001))
-}
-
-// Sets account 1 or 2 of the first owner.
-fn play_set(
-    rt: &impl Print,
-    s: &mut [u64],
-    opening: u64,
-    number: u64,
-    wish: Wish,
-) -> io::Result<()> {
-    if !seat_fits(s) {
-        return Ok(());
-    }
-    let answer = set_account(s, opening, first_owner(), number, settings_of(wish));
-    tell(rt, b"set", answer)?;
-    show(rt, s)
-}
-
-fn nothing() -> Settings {
-    Settings {
-        out: 0,
-        into: 0,
-        ltk: 0,
-        lpo: 0,
-    }
-}
-
-fn nameless() -> Identifier {
-    Identifier {
-        first: 0,
-        second: 0,
-        third: 0,
-        fourth: 0,
-        fifth: 0,
-    }
+    Some(Listed {
+        place: 0,
+        participant: owner(FIRST_OWNER),
+    })
 }
 
 // A camt.050 of the first owner that was carried out, from its account 1 to its account 2.
 fn transfer(id: Identifier, uetr: Uetr, amount: u64) -> Step {
     Step {
-        kind: 2,
-        status: 1,
+        kind: CAMT_050,
+        status: ACCC,
         check: 0,
-        sender: 300001,
+        sender: FIRST_OWNER,
         id,
         uetr,
         created: 20240301123456,
-        reference: nameless(),
-        debit: 0,
         credit: 1,
         amount,
-        account: 0,
-        old: nothing(),
-        given: nothing(),
-        receiver: 0,
-        answers: 0,
+        ..no_step()
     }
 }
 
@@ -173,10 +131,7 @@ fn play_step(rt: &impl Print, s: &mut [u64], x: Step) -> io::Result<()> {
         return Ok(());
     }
     let h = head(s);
-    if h.opened != 1 {
-        return Ok(());
-    }
-    if STEPS <= h.steps {
+    if !h.is_open() || STEPS <= h.steps {
         return Ok(());
     }
     if !is_possible(s, x) {
@@ -191,42 +146,59 @@ fn play_step(rt: &impl Print, s: &mut [u64], x: Step) -> io::Result<()> {
 fn in_seat(rt: &impl Print, s: &mut [u64]) -> io::Result<()> {
     let id = identifier_of(b"3000012024030100000001");
     let uetr = uetr_of(b"eb6305c9-1f7f-49de-aed0-16487c27b42d");
-    let limits = Wish {
+    let limits = settings_of(Wish {
         out: false,
         into: true,
         ltk: 10000,
-        lpo: Limit::Of(0),
-    };
-    play_open(rt, s, &[50000, 10000, 0])?;
-    play_open(rt, s, &[50000, 10000, 0, 0])?;
-    play_set(rt, s, 1, 1, limits)?;
-    play_set(rt, s, 1, 3, limits)?;
+        lpo: Some(0),
+    });
+    play(
+        rt,
+        s,
+        b"open",
+        |s| open_seat(s, class(), &[50000, 10000, 0]),
+    )?;
+    play(
+        rt,
+        s,
+        b"open",
+        |s| open_seat(s, class(), &[50000, 10000, 0, 0]),
+    )?;
+    play(
+        rt,
+        s,
+        b"set",
+        |s| set_account(s, 1, first_owner(), 1, limits),
+    )?;
+    play(
+        rt,
+        s,
+        b"set",
+        |s| set_account(s, 1, first_owner(), 3, limits),
+    )?;
     play_step(rt, s, transfer(id, uetr, 50000))?;
     play_step(rt, s, transfer(id, uetr, 1))?;
-    play_back(rt, s, 1)?;
-    play_back(rt, s, 2)?;
-    play_back(rt, s, 1)?;
-    play_back(rt, s, 1)?;
-    play_close(rt, s, 1)?;
-    play_close(rt, s, 1)?;
-    play_open(rt, s, &[0, 0, 7, 8])
+    play(rt, s, b"back", |s| take_back(s, 1))?;
+    play(rt, s, b"back", |s| take_back(s, 2))?;
+    play(rt, s, b"back", |s| take_back(s, 1))?;
+    play(rt, s, b"back", |s| take_back(s, 1))?;
+    play(rt, s, b"close", |s| close_seat(s, 1))?;
+    play(rt, s, b"close", |s| close_seat(s, 1))?;
+    play(rt, s, b"open", |s| open_seat(s, class(), &[0, 0, 7, 8]))
 }
 
 fn tell_fitness(rt: &impl Print, room: &[u64]) -> io::Result<()> {
-    if room_fits(room) {
-        println!(rt; "room fit")
-    } else {
-        println!(rt; "room unfit")
-    }
+    let fitness = if room_fits(room) { "fit" } else { "unfit" };
+    println!(rt; "room {fitness}")
 }
 
-// Plays in seat 3 of a room that was laid out, and looks at the whole room before and behind.
+// Plays in a seat of a room that was laid out, and looks at the whole room before and after.
 fn lesson(rt: &impl Print, room: &mut [u64]) -> io::Result<()> {
     if room.len() != ROOM_LONG {
         return Ok(());
     }
     tell_fitness(rt, room)?;
-    let from = 3 * SEAT_LONG;
+    let from = seat_from(LESSON_SEAT);
     let to = from + SEAT_LONG;
     in_seat(rt, &mut room[from..to])?;
     tell_fitness(rt, room)

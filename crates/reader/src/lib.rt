@@ -14,20 +14,15 @@ use sheet::ELEMENT_MOST;
 pub const REFUSED_FROM: u64 = 1_000_000;
 
 // Reads the bytes. Below 256 it answers with the start of that element, below 512 with the depth of the element that stands 256 before, and
-// from 512 on with the number of elements, or the place of the refusal and a million.
-#[tactic(auto, using(crate::proofs::Numbers::numbers))]
+// from 512 on with the number of elements, or the place of the refusal and a million. Of a refused sheet there is no start and no depth: 0.
 pub fn damvurit_read_sheet(s: &[u8], which: usize) -> u64
     ensures { result ≡ number_at (reading_of s.now) which }
 {
-    let sheet = sheet::read(s);
-    if which < ELEMENT_MOST {
-        return sheet.starts[which] as u64;
+    match sheet::read(s) {
+        Ok(sheet) if which < ELEMENT_MOST => sheet.starts[which] as u64,
+        Ok(sheet) if which < 2 * ELEMENT_MOST => sheet.depths[which - ELEMENT_MOST] as u64,
+        Ok(sheet) => sheet.count as u64,
+        Err(_) if which < 2 * ELEMENT_MOST => 0,
+        Err(refused) => REFUSED_FROM + refused.place as u64,
     }
-    if which < 2 * ELEMENT_MOST {
-        return sheet.depths[which - ELEMENT_MOST] as u64;
-    }
-    if sheet.accepted {
-        return sheet.count as u64;
-    }
-    REFUSED_FROM + sheet.place as u64
 }

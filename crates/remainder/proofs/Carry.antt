@@ -1,6 +1,7 @@
 -- Writing characters behind a number keeps remainders modulo 97: the remainder may be taken after each character, and what comes out is the
 -- remainder of the whole number.
 -- Assumes nothing.
+use Rattle.std.specs.Prelude.{Some, None}
 use mathlib.Core.Path.{◌≡◌, refl, sym, ap, ◌∙◌}
 use mathlib.Core.Bool.{Bool, true, false, ◌&&◌, cond}
 use mathlib.Core.List.{List, [], ◌∷◌, ◌++◌}
@@ -14,7 +15,6 @@ use lib.Seq.{drop-cons, take_all}
 use borrow.Author.Tests.{le-leb, lt-leb}
 use Rattle.shape.specs.Bytes.{every, is_digit, is_digit_or_capital}
 use Rattle.shape.specs.Patterns.{within, digit_or_capital}
-use Rattle.remainder.specs.declared.Mod97.TheVariants.{Of, NoIban}
 use Rattle.remainder.specs.Remainder.{modulus, capital_base, written, written_all, whole, is_plain, remainder_of}
 
 -- a multiple of the modulus in the number is one in what is written behind it too, so it may be left out first
@@ -70,11 +70,11 @@ class-is (b ∷ s) = ap (λ (t : Bool). is_digit_or_capital b && t) (class-is s)
 
 -- the three answers, by what the code has tested and carried
 module _ (s : List ℕ) where
-  pub none-of-short : length s < 4 → NoIban ≡ remainder_of s
+  pub none-of-short : length s < 4 → None ≡ remainder_of s
   unfolding remainder_of is_plain
   none-of-short h = rw (lt-leb 4 (length s) h)
 
-  pub none-of-other : 4 ≤ length s → every (within digit_or_capital) s ≡ false → NoIban ≡ remainder_of s
+  pub none-of-other : 4 ≤ length s → every (within digit_or_capital) s ≡ false → None ≡ remainder_of s
   unfolding remainder_of is_plain
   none-of-other h e = rw (le-leb 4 (length s) h, sym (class-is s) ∙ e)
 
@@ -83,7 +83,7 @@ module _ (s : List ℕ) where
   whole-carried = written_all-keeps (written_all 0 (drop 4 s)) (take 4 s) ∙ rw (written_all-append 0 (drop 4 s) (take 4 s))
 
   pub of_plain : 4 ≤ length s → every (within digit_or_capital) s ≡ true
-      → Of (written_all (written_all 0 (take (length s - 4) (drop 4 s)) % modulus) (take 4 s) % modulus) ≡ remainder_of s
+      → Some (written_all (written_all 0 (take (length s - 4) (drop 4 s)) % modulus) (take 4 s) % modulus) ≡ remainder_of s
   unfolding remainder_of is_plain
   of_plain h e =
-      rw (le-leb 4 (length s) h, sym (class-is s) ∙ e, take_all (length s - 4) (drop 4 s) (omega (arith, length-drop 4 s))) (ap Of whole-carried)
+      rw (le-leb 4 (length s) h, sym (class-is s) ∙ e, take_all (length s - 4) (drop 4 s) (omega (arith, length-drop 4 s))) (ap Some whole-carried)

@@ -3,11 +3,9 @@
 -- of the two check digits, nor at a country's length.
 -- What is said here is the number alone, not how it is worked out. It is said of every text of four or more digits and capitals, of any
 -- country; any other text has no remainder.
-use Rattle.std.specs.Prelude.{Bool, ◌&&◌, cond, List, [], ◌∷◌, ◌++◌, ℕ, ◌+◌, ◌-◌, ◌*◌, ◌%◌, leb, length, take, drop}
+use Rattle.std.specs.Prelude.{Bool, ◌&&◌, cond, List, [], ◌∷◌, ◌++◌, ℕ, ◌+◌, ◌-◌, ◌*◌, ◌%◌, leb, length, take, drop, Option, Some, None}
 use Prim.Native.Char.{code}
 use Rattle.shape.specs.Bytes.{every, is_digit, is_digit_or_capital}
-use Rattle.remainder.specs.declared.Mod97.{Mod97}
-use Rattle.remainder.specs.declared.Mod97.TheVariants.{Of, NoIban}
 
 -- MOD 97-10
 abbrev pub modulus : ℕ
@@ -35,5 +33,5 @@ whole s = written_all 0 (drop 4 s ++ take 4 s)
 unfoldable pub is_plain : List ℕ → Bool
 is_plain s = leb 4 (length s) && every is_digit_or_capital s
 
-unfoldable pub remainder_of : List ℕ → Mod97
-remainder_of s = cond (is_plain s) (Of (whole s % modulus)) NoIban
+unfoldable pub remainder_of : List ℕ → Option ℕ
+remainder_of s = cond (is_plain s) (Some (whole s % modulus)) None

@@ -3,7 +3,7 @@
 // It knows nothing of messages; which IBANs are well shaped is said in `shape`. The rule stands in `specs/Remainder.antt`.
 #![tactic(auto)]
 
-ghost use Rattle.std.specs.Prelude.{◌≡◌, ◌<◌, ◌%◌, ◌-◌};
+ghost use Rattle.std.specs.Prelude.{◌≡◌, ◌<◌, ◌%◌};
 ghost use Rattle.remainder.specs.Remainder.{modulus, written, written_all, remainder_of};
 
 use shape::byte::is_digit;
@@ -15,15 +15,11 @@ const MODULUS: u64 = 97;
 // What a capital is above its number: A is 10.
 const CAPITAL_BASE: u8 = b'A' - 10;
 
-// What an IBAN leaves when its number is divided by 97.
-#[derive(Clone, Copy)]
-pub enum Mod97 {
-    Of(u64),
-    NoIban,
-}
+// The characters in front, the country and its two check digits, which are moved to the end.
+const FRONT_LONG: usize = 4;
 
 // The remainder of the number written so far.
-#[derive(Clone, Copy)]
+#[derive(Clone, Copy, Debug, PartialEq, Eq)]
 pub struct Carried {
     pub remainder: u64,
 }
@@ -36,57 +32,42 @@ impl Carried {
         Carried { remainder: 0 }
     }
 
-    // The remainder with one more character written behind the number.
+    // The remainder with one more character written after the number.
     pub fn next(self, b: u8) -> Self
         ensures { result ≡ record { remainder = written self.remainder b % modulus } }
     {
         let so_far = self.remainder % MODULUS;
-        if is_digit(b) {
-            return Carried {
-                remainder: (so_far * 10 + below(b, b'0')) % MODULUS,
-            };
-        }
+        let longer = if is_digit(b) {
+            so_far * 10 + b.saturating_sub(b'0') as u64
+        } else {
+            so_far * 100 + b.saturating_sub(CAPITAL_BASE) as u64
+        };
         Carried {
-            remainder: (so_far * 100 + below(b, CAPITAL_BASE)) % MODULUS,
+            remainder: longer % MODULUS,
         }
     }
 }
 
-// How far a byte stands above another, 0 where it does not.
-fn below(b: u8, base: u8) -> u64
-    ensures { result ≡ b - base }
-{
-    if b < base {
-        return 0;
-    }
-    (b - base) as u64
-}
-
-// The remainder with all of a part written behind the number.
+// The remainder with all of a part written after the number. By `fold` the proof did not close.
 fn through(from: Carried, s: &[u8]) -> Carried
     requires { from.remainder < modulus }
     ensures { result ≡ record { remainder = written_all from.remainder s.now % modulus } }
 {
     let mut at = from;
-    let mut i = 0;
-    while i < s.len() {
-        at = at.next(s[i]);
-        i += 1;
+    for b in s {
+        at = at.next(*b);
     }
     at
 }
 
 // The remainder of an IBAN, or that the text is none.
-pub fn remainder(s: &[u8]) -> Mod97
+pub fn remainder(s: &[u8]) -> Option<u64>
     ensures { result ≡ remainder_of s.now }
 {
-    if s.len() < 4 {
-        return Mod97::NoIban;
+    if s.len() < FRONT_LONG || !all_within(DIGIT_OR_CAPITAL, s) {
+        return None;
     }
-    if !all_within(DIGIT_OR_CAPITAL, s) {
-        return Mod97::NoIban;
-    }
-    let end = through(Carried::start(), &s[4..]);
-    let all = through(end, &s[..4]);
-    Mod97::Of(all.remainder)
+    let end = through(Carried::start(), &s[FRONT_LONG..]);
+    let all = through(end, &s[..FRONT_LONG]);
+    Some(all.remainder)
 }

@@ -1,7 +1,8 @@
 -- Digits as bytes and as numbers: nineteen of them fit, and so do the sums that sixteen and two make.
 -- Assumes nothing.
+use Rattle.std.specs.Prelude.{Some, None}
 use mathlib.Core.Path.{◌≡◌, refl, sym, ◌∙◌}
-use mathlib.Core.Bool.{Bool, true, false, not, ◌&&◌, ◌||◌, cond, false≢true}
+use mathlib.Core.Bool.{Bool, true, false, ◌&&◌, cond}
 use mathlib.Core.List.{List, [], ◌∷◌}
 use Prim.Native.Nat.{ℕ, suc, ◌+◌, ◌-◌, ◌*◌, ◌^◌, ◌≤◌, ◌<◌}
 use native.Mathlib.Omega.{arith}
@@ -13,9 +14,8 @@ use borrow.Author.Tests.{leb-true, eqb-true}
 use Rattle.shape.specs.Text.{bytes}
 use Rattle.shape.specs.Bytes.{every, is_digit}
 use Rattle.shape.specs.Numbers.{digit_value, decimal_from, decimal}
-use Rattle.shape.specs.declared.value.Value.TheVariants.{Of, None}
 use Rattle.shape.proofs.Tests.{and_left, and_right, in-range, at_place}
-use Rattle.script.specs.Said.{number_digits_most, sum_digits_most, sum_from, has_point, sum_of}
+use Rattle.script.specs.Said.{sum_digits_most, sum_from, has_point, sum_of}
 
 -- each byte of a text of digits is a digit
 pub digit-byte : (s : List ℕ) → every is_digit s ≡ true → (i : ℕ) → i < length s → (48 ≤ get_or s i 0) × (get_or s i 0 ≤ 57)
@@ -42,15 +42,6 @@ below-from (b ∷ s) i n e h =
 pub decimal-below : (s : List ℕ) → every is_digit s ≡ true → decimal s < 10 ^ length s
 unfolding decimal
 decimal-below s e = digits-below (0 + length s) (length s) (decimal_from 0 s) (omega arith) (below-from s 0 0 e (lit< tt))
-
--- what the test of a number says of its digits
-module _ (s : List ℕ) (t : Bool) (e : t ≡ every is_digit s) (h : (leb 1 (length s) && leb (length s) number_digits_most && t) ≡ true) where
-  pub number-tested : (length s ≤ number_digits_most) × (every is_digit s ≡ true)
-  number-tested = (
-    leb-true (length s) number_digits_most
-        (and_right (leb 1 (length s)) (leb (length s) number_digits_most) (and_left (leb 1 (length s) && leb (length s) number_digits_most) t h)),
-    sym e ∙ and_right (leb 1 (length s) && leb (length s) number_digits_most) t h,
-  )
 
 -- what the test of a sum says of its two parts
 module _ (u h : List ℕ) (t w : Bool) (e : t ≡ every is_digit u) (f : w ≡ every is_digit h)
@@ -86,34 +77,34 @@ module _ (u h : List ℕ) (t w : Bool) (e : t ≡ every is_digit u) (f : w ≡ e
   pub sum-small : decimal u * 100 + decimal h < 10 ^ (sum_digits_most + 2)
   sum-small = omega (arith, units-below, hundredths-below)
 
+-- the same of the tests one by one
+module _ (u h : List ℕ) where
+  pub units-few : length u ≤ sum_digits_most → every is_digit u ≡ true → decimal u < 10 ^ sum_digits_most
+  units-few l d = digits-below (length u) sum_digits_most (decimal u) l (decimal-below u d)
+
+  pub sum-few : length u ≤ sum_digits_most → every is_digit u ≡ true → length h ≡ 2 → every is_digit h ≡ true
+      → decimal u * 100 + decimal h < 10 ^ (sum_digits_most + 2)
+  sum-few l d k e = omega (arith, units-few l d, digits-below (length h) 2 (decimal h) (omega (arith, k)) (decimal-below h e))
+
+pub ruleset tested = (units-few, sum-few)
+
 -- every sum stays below the power of ten for all its digits
-parts_below : (u h : List ℕ) (n : ℕ) → sum_from u h ≡ Of n → n < 10 ^ (sum_digits_most + 2)
+parts_below : (u h : List ℕ) (n : ℕ) → sum_from u h ≡ Some n → n < 10 ^ (sum_digits_most + 2)
 unfolding sum_from
 parts_below u h n e =
     by-test (leb 1 (length u) && leb (length u) sum_digits_most && eqb (length h) 2 && every is_digit u && every is_digit h)
     (λ k. sum-small u h (every is_digit u) (every is_digit h) refl refl k) e
   where
     by-test : (t : Bool) → (t ≡ true → decimal u * 100 + decimal h < 10 ^ (sum_digits_most + 2))
-        → cond t (Of (decimal u * 100 + decimal h)) None ≡ Of n → n < 10 ^ (sum_digits_most + 2)
+        → cond t (Some (decimal u * 100 + decimal h)) None ≡ Some n → n < 10 ^ (sum_digits_most + 2)
     by-test true small e = let m : decimal u * 100 + decimal h ≡ n = cc in omega (arith, small refl)
     by-test false small e = let z : ◌≡◌ {A = ℕ} 0 1 = cc in omega arith
 
-pub sum_below : (s : List ℕ) (n : ℕ) → sum_of s ≡ Of n → n < 10 ^ (sum_digits_most + 2)
+pub sum_below : (s : List ℕ) (n : ℕ) → sum_of s ≡ Some n → n < 10 ^ (sum_digits_most + 2)
 unfolding sum_of
 sum_below s n e = by-test (has_point s) e
   where
     by-test : (t : Bool)
-        → cond t (sum_from (take (length s - 3) s) (drop (length s - 2) s)) (sum_from s (bytes "00")) ≡ Of n → n < 10 ^ (sum_digits_most + 2)
+        → cond t (sum_from (take (length s - 3) s) (drop (length s - 2) s)) (sum_from s (bytes "00")) ≡ Some n → n < 10 ^ (sum_digits_most + 2)
     by-test true e = parts_below (take (length s - 3) s) (drop (length s - 2) s) n e
     by-test false e = parts_below s (bytes "00") n e
-
--- one of two dashes is missing, or none is
-pub missing : (a b : Bool) → (not a || not b) ≡ true → (a && b) ≡ false
-missing true true e = absurd (false≢true e)
-missing true false e = refl
-missing false b e = refl
-
-pub both : (a b : Bool) → (not a || not b) ≡ false → (a && b) ≡ true
-both true true e = refl
-both true false e = absurd (false≢true (sym e))
-both false b e = absurd (false≢true (sym e))

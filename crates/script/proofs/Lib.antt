@@ -1,7 +1,6 @@
 pub mod Runs
 pub mod Digits
 pub mod Takes
-pub mod Others
 pub mod Settled
 pub mod Examples
 pub mod Written

@@ -1,5 +1,6 @@
 -- What is written with its digits is read back: every number below 10^19, and every sum below 10^18 kopecks.
 -- Assumes nothing.
+use Rattle.std.specs.Prelude.{Some}
 use mathlib.Core.Path.{◌≡◌, refl, ap, ◌∙◌}
 use mathlib.Core.Bool.{Bool, true, false, cond}
 use mathlib.Core.List.{List, [], ◌∷◌, ◌++◌}
@@ -14,7 +15,6 @@ use borrow.Author.Tests.{le-leb, ltb-true}
 use Rattle.shape.specs.Bytes.{every, is_digit}
 use Rattle.shape.specs.Numbers.{digit_value, decimal_from, decimal}
 use Rattle.shape.specs.Fields.{whole, hundredths, kopecks}
-use Rattle.shape.specs.declared.value.Value.TheVariants.{Of}
 use Rattle.shape.proofs.Tests.{and_left, and_right, range-in}
 use Rattle.script.specs.Said.{number_digits_most, sum_digits_most, number_of, sum_of}
 use Rattle.script.proofs.Written.{sum-of-parts}
@@ -83,7 +83,7 @@ digits-digits (suc k) n = by-test (ltb n 10) (digits-digits k (n / 10))
     by-test false ih = every_append (digits_text k (n / 10)) (ones n ∷ []) ih (rw (ones-digit n))
 
 -- a number is read back
-pub number-read-back : (n : ℕ) → n < 10 ^ number_digits_most → number_of (digits_text (number_digits_most - 1) n) ≡ Of n
+pub number-read-back : (n : ℕ) → n < 10 ^ number_digits_most → number_of (digits_text (number_digits_most - 1) n) ≡ Some n
 unfolding number_of decimal
 number-read-back n h =
     let l = digits-length (number_digits_most - 1) n in
@@ -108,22 +108,22 @@ module _ (w : List ℕ) (a b : ℕ) (lo : 1 ≤ length w) (hi : length w ≤ sum
       let e : length (w ++ (code "." ∷ a ∷ b ∷ [])) - 2 ≡ length w + 1 = omega (arith, all-length) in
       ap (λ (k : ℕ). drop k (w ++ (code "." ∷ a ∷ b ∷ []))) e ∙ drop-append-add w (code "." ∷ a ∷ b ∷ []) 1
 
-  pub sum-with : sum_of (w ++ (code "." ∷ a ∷ b ∷ [])) ≡ Of (decimal w * 100 + decimal (a ∷ b ∷ []))
+  pub sum-with : sum_of (w ++ (code "." ∷ a ∷ b ∷ [])) ≡ Some (decimal w * 100 + decimal (a ∷ b ∷ []))
   unfolding kopecks
   sum-with =
       sum-of-parts (w ++ (code "." ∷ a ∷ b ∷ [])) (omega (arith, all-length)) (omega (arith, all-length))
       (get_or_at w (code ".") (a ∷ b ∷ []) 0 (length (w ++ (code "." ∷ a ∷ b ∷ [])) - 3) (omega (arith, all-length)))
       (ap (every is_digit) whole_is ∙ u)
       (ap (every is_digit) hundredths-are ∙ rw (da, db))
-      ∙ ap (λ (x : List ℕ). Of (decimal x * 100 + decimal (hundredths (w ++ (code "." ∷ a ∷ b ∷ []))))) whole_is
-      ∙ ap (λ (x : List ℕ). Of (decimal w * 100 + decimal x)) hundredths-are
+      ∙ ap (λ (x : List ℕ). Some (decimal x * 100 + decimal (hundredths (w ++ (code "." ∷ a ∷ b ∷ []))))) whole_is
+      ∙ ap (λ (x : List ℕ). Some (decimal w * 100 + decimal x)) hundredths-are
 
 -- a sum is read back
-pub sum-read-back : (n : ℕ) → n < 10 ^ (sum_digits_most + 2) → sum_of (sum_text n) ≡ Of n
+pub sum-read-back : (n : ℕ) → n < 10 ^ (sum_digits_most + 2) → sum_of (sum_text n) ≡ Some n
 unfolding sum_text decimal
 sum-read-back n h =
     let l = digits-length (sum_digits_most - 1) (n / 10 / 10) in
     let d : decimal_from 0 (digits_text (sum_digits_most - 1) (n / 10 / 10)) ≡ n / 10 / 10 = digits-right (sum_digits_most - 1) (n / 10 / 10) (omega arith) in
     sum-with (digits_text (sum_digits_most - 1) (n / 10 / 10)) (ones (n / 10)) (ones n) l.0 l.1 (digits-digits (sum_digits_most - 1) (n / 10 / 10))
     (ones-digit (n / 10)) (ones-digit n)
-    ∙ ap Of (omega arith)
+    ∙ ap Some (omega arith)

@@ -11,8 +11,6 @@ use Rattle.script.proofs.text.find.Kinds as find-kinds
 use Rattle.script.proofs.text.find.Reads as find-reads
 use Rattle.script.proofs.text.text_end.Kinds as text-end-kinds
 use Rattle.script.proofs.text.text_end.Reads as text-end-reads
-use Rattle.script.proofs.text.is_same.Kinds as is-same-kinds
-use Rattle.script.proofs.text.is_same.Reads as is-same-reads
 use Rattle.script.proofs.line_end.Kinds as line-end-kinds
 use Rattle.script.proofs.line_end.Reads as line-end-reads
 use Rattle.script.proofs.read_line.Kinds as read-line-kinds
@@ -32,9 +30,6 @@ find κs a x y e f = by-equation
 
 pub text-end : Settled _ text-end-kinds.ps text-end-kinds.r text-end-reads.Post
 text-end κs a x y e f = by-equation
-
-pub is_same : Settled _ is-same-kinds.ps is-same-kinds.r is-same-reads.Post
-is_same κs a x y e f = by-equation
 
 pub line-end : Settled _ line-end-kinds.ps line-end-kinds.r line-end-reads.Post
 line-end κs a x y e f = by-equation

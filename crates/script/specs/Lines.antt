@@ -1,8 +1,6 @@
 -- A line of a lesson: its word, and the values that the words behind it say.
 -- A line is good where its word is known and exactly what the word asks for stands behind it.
-use Rattle.std.specs.Prelude.{Bool, true, false, not, ◌&&◌, List, [], ◌∷◌, ℕ, ◌+◌, ◌%◌, eqb, length, set, replicate}
-use Rattle.shape.specs.declared.value.Value.{Value}
-use Rattle.shape.specs.declared.value.Value.TheVariants.{Of, None}
+use Rattle.std.specs.Prelude.{Bool, true, false, not, ◌&&◌, List, [], ◌∷◌, ℕ, ◌+◌, ◌%◌, eqb, length, set, replicate, Option, Some, None}
 use Rattle.script.specs.Places.{skip_blanks, word_at, next_word}
 use Rattle.script.specs.Said.{value_of}
 use Rattle.script.specs.Words.{values_most, word_of, wants}
@@ -10,6 +8,7 @@ use Rattle.script.specs.declared.Word.{Word}
 use Rattle.script.specs.declared.Word.TheVariants.{Blank, Room, Nobody, Owner, Direct, Indirect, Provider, Open, Close, Set, Submit, Back, Read, Slip, Unknown}
 use Rattle.script.specs.declared.Line.{Line}
 use Rattle.script.specs.declared.values.Taken.{Taken}
+use Rattle.script.specs.declared.values.Want.{Want}
 
 -- what was taken so far, as all of it or up to a word that does not say what is wanted
 abbrev pub took_all : ℕ → List ℕ → ℕ → Taken
@@ -19,12 +18,12 @@ abbrev pub took_some : ℕ → List ℕ → ℕ → Taken
 took_some count values rest = record { all = false; count = count; values = values; rest = rest }
 
 -- a value and what is taken behind it, or what was taken so far
-abbrev pub going : Value → (ℕ → Taken) → Taken → Taken
-going (Of n) behind so_far = behind n
+abbrev pub going : Option ℕ → (ℕ → Taken) → Taken → Taken
+going (Some n) behind so_far = behind n
 going None behind so_far = so_far
 
 -- takes a value for each want from the words at a place, up to the first word that does not say what is wanted
-unfoldable pub take_from : List ℕ → List ℕ → ℕ → List ℕ → ℕ → Taken
+unfoldable pub take_from : List Want → List ℕ → ℕ → List ℕ → ℕ → Taken
 take_from [] s count values rest = took_all count values rest
 take_from (want ∷ wanted) s count values rest =
     going (value_of want (word_at s rest))
@@ -32,7 +31,7 @@ take_from (want ∷ wanted) s count values rest =
     (took_some count values rest)
 
 -- the same from nothing: at most `values_most` values, zeros behind the last
-unfoldable pub taken : List ℕ → List ℕ → ℕ → Taken
+unfoldable pub taken : List Want → List ℕ → ℕ → Taken
 taken wanted s from = take_from wanted s 0 (replicate values_most 0) from
 
 -- nothing stands behind what was taken

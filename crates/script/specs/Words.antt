@@ -3,7 +3,8 @@ use Rattle.std.specs.Prelude.{Bool, ◌||◌, cond, List, [], ◌∷◌, ◌++�
 use Prim.Native.Char.{code}
 use Rattle.shape.specs.Text.{bytes}
 use Rattle.script.specs.Places.{is_same}
-use Rattle.script.specs.Said.{number, sum, date, answer, instant, limit}
+use Rattle.script.specs.declared.values.Want.{Want}
+use Rattle.script.specs.declared.values.Want.TheVariants.{Number, Sum, Date, Answer, Instant, Limit}
 use Rattle.script.specs.declared.Word.{Word}
 use Rattle.script.specs.declared.Word.TheVariants.{Blank, Room, Nobody, Owner, Direct, Indirect, Provider, Open, Close, Set, Submit, Back, Read, Slip, Unknown}
 
@@ -23,10 +24,6 @@ abbrev pub named : List (List ℕ × Word) → List ℕ → Word
 named [] s = Unknown
 named (n ∷ names) s = cond (is_same n.0 s) n.1 (named names s)
 
--- the word for a call
-unfoldable pub call_of : List ℕ → Word
-call_of s = named call_names s
-
 -- the line says nothing: there is no word, or the first one begins with `#`
 abbrev pub is_silent : List ℕ → Bool
 is_silent s = eqb (get_or s 0 0) 0 || eqb (get_or s 0 0) (code "#")
@@ -42,28 +39,28 @@ abbrev pub values_most : ℕ
 values_most = suc sums_most
 
 -- what a word wants behind it, a value from each word: open as many sums as there are, up to `sums_most`; submit and slip leave the rest
-unfoldable pub wants : Word → List ℕ
+unfoldable pub wants : Word → List Want
 wants Blank = []
 wants Room = []
 wants Nobody = []
 -- CODE instant|ordinary
-wants Owner = number ∷ instant ∷ []
+wants Owner = Number ∷ Instant ∷ []
 -- CODE HEAD instant|ordinary
-wants Direct = number ∷ number ∷ instant ∷ []
-wants Indirect = number ∷ number ∷ instant ∷ []
-wants Provider = number ∷ number ∷ instant ∷ []
+wants Direct = Number ∷ Number ∷ Instant ∷ []
+wants Indirect = Number ∷ Number ∷ Instant ∷ []
+wants Provider = Number ∷ Number ∷ Instant ∷ []
 -- SEAT SUM SUM ..
-wants Open = number ∷ replicate sums_most sum
+wants Open = Number ∷ replicate sums_most Sum
 -- SEAT OPENING
-wants Close = number ∷ number ∷ []
+wants Close = Number ∷ Number ∷ []
 -- SEAT OPENING OWNER ACCOUNT OUT IN LTK LPO
-wants Set = number ∷ number ∷ number ∷ number ∷ answer ∷ answer ∷ sum ∷ limit ∷ []
+wants Set = Number ∷ Number ∷ Number ∷ Number ∷ Answer ∷ Answer ∷ Sum ∷ Limit ∷ []
 -- SEAT OPENING SENDER DATE SHEET
-wants Submit = number ∷ number ∷ number ∷ date ∷ []
+wants Submit = Number ∷ Number ∷ Number ∷ Date ∷ []
 -- SEAT OPENING
-wants Back = number ∷ number ∷ []
+wants Back = Number ∷ Number ∷ []
 -- SEAT OPENING OWNER ACCOUNT
-wants Read = number ∷ number ∷ number ∷ number ∷ []
+wants Read = Number ∷ Number ∷ Number ∷ Number ∷ []
 -- HEX
 wants Slip = []
 wants Unknown = []

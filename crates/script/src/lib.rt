@@ -1,6 +1,6 @@
-// A lesson is lines, and this reads one: its word and the values behind it, sums in kopecks, dates as numbers, yes and no as 1 and 0.
-// It knows nothing of rooms and calls: whether a date is real, or what stands behind slip is one, is the call's business.
-// The table of words stands in `specs/Words.antt`, what a word behind the first says in `specs/Said.antt`, a line in `specs/Lines.antt`.
+// A lesson is lines, and this reads one: its word and the values after it, sums in kopecks, dates as numbers, yes and no as 1 and 0.
+// It knows nothing of rooms and calls: whether a date is real, or what stands after slip is one, is the call's business.
+// The table of words stands in `specs/Words.antt`, what a word after the first says in `specs/Said.antt`, a line in `specs/Lines.antt`.
 #![tactic(auto)]
 
 mod names;
@@ -20,7 +20,7 @@ use values::{Taken, values_of};
 pub const VALUES_MOST: usize = 35;
 
 // The words that a line begins with. Blank is a line that says nothing, Unknown one whose word is none of them.
-#[derive(Clone, Copy)]
+#[derive(Clone, Copy, PartialEq, Eq, Debug)]
 pub enum Word {
     Blank,
     Room,
@@ -40,7 +40,8 @@ pub enum Word {
 }
 
 // A line: its word, whether all that it asks for stands there, the values in their order, and where the rest begins
-// (the sheet of a submit, the digits of a slip; else where reading stopped).
+// (the sheet of a submit, the digits of a slip; else where reading stopped). `line_of` says the values of a bad line too.
+// Values with their count: there is no heap.
 #[derive(Clone, Copy)]
 pub struct Line {
     pub word: Word,
@@ -51,21 +52,23 @@ pub struct Line {
 }
 
 // Whether a line has exactly what its word asks for.
+#[tactic(auto, unfolding(crate::specs::Lines::is_whole))]
 fn is_whole(word: Word, taken: Taken, s: &[u8]) -> bool
     ensures { result ≡ is_whole word taken s.now }
 {
-    let nothing_behind = taken.rest == s.len();
+    let nothing_after = taken.rest == s.len();
     match word {
         Word::Blank => true,
         Word::Unknown => false,
-        Word::Open => (taken.count % 2 == 1) & nothing_behind,
+        Word::Open => (taken.count % 2 == 1) & nothing_after,
         Word::Submit => taken.all,
-        Word::Slip => !nothing_behind,
-        _ => taken.all & nothing_behind,
+        Word::Slip => !nothing_after,
+        _ => taken.all & nothing_after,
     }
 }
 
 // Reads a line.
+#[tactic(auto, using(crate::proofs::Takes::within), unfolding(crate::specs::Lines::line_of))]
 pub fn read_line(s: &[u8]) -> Line
     ensures { result ≡ line_of s.now }
 {
@@ -74,17 +77,23 @@ pub fn read_line(s: &[u8]) -> Line
     let from = skip_blanks(s, end);
     let word = word_of(&s[start..end]);
     let taken = values_of(word, s, from);
-    let values = taken.values;
+    let Taken {
+        count,
+        values,
+        rest,
+        ..
+    } = taken;
     Line {
         word,
         good: is_whole(word, taken, s),
-        count: taken.count,
+        count,
         values,
-        rest: taken.rest,
+        rest,
     }
 }
 
 // Where the line ends that begins at a place: the next line feed, or the end.
+#[tactic(auto, unfolding(crate::specs::Places::line_end))]
 pub fn line_end(s: &[u8], from: usize) -> usize
     ensures { result ≡ line_end s.now from }
 {

@@ -1,40 +1,42 @@
 // The word that a line begins with.
-ghost use Rattle.std.specs.Prelude.{◌≡◌};
-ghost use Rattle.script.specs.Words.{call_of, word_of};
+ghost use Rattle.std.specs.Prelude.{◌≡◌, map};
+ghost use Rattle.script.specs.Words.{named, word_of};
 
 use crate::Word;
-use crate::text::is_same;
 use shape::byte::peek;
 
-// Of the words for the calls on a room.
-fn call_of(s: &[u8]) -> Word
-    ensures { result ≡ call_of s.now }
+// The names of the words: those for the room and its banks, and those for the calls.
+const NAMES: [(&[u8], Word); 13] = [
+    (b"room", Word::Room),
+    (b"nobody", Word::Nobody),
+    (b"owner", Word::Owner),
+    (b"direct", Word::Direct),
+    (b"indirect", Word::Indirect),
+    (b"provider", Word::Provider),
+    (b"open", Word::Open),
+    (b"close", Word::Close),
+    (b"set", Word::Set),
+    (b"submit", Word::Submit),
+    (b"back", Word::Back),
+    (b"read", Word::Read),
+    (b"slip", Word::Slip),
+];
+
+// The word of a table that has this name.
+#[tactic(auto, unfolding(crate::specs::Places::is_same))]
+fn named(names: &[(&[u8], Word)], s: &[u8]) -> Word
+    ensures { result ≡ named (map (λ n. (n.0.now, n.1)) names.now) s.now }
 {
-    if is_same(b"open", s) {
-        return Word::Open;
-    }
-    if is_same(b"close", s) {
-        return Word::Close;
-    }
-    if is_same(b"set", s) {
-        return Word::Set;
-    }
-    if is_same(b"submit", s) {
-        return Word::Submit;
-    }
-    if is_same(b"back", s) {
-        return Word::Back;
-    }
-    if is_same(b"read", s) {
-        return Word::Read;
-    }
-    if is_same(b"slip", s) {
-        return Word::Slip;
+    for (name, word) in names {
+        if *name == s {
+            return *word;
+        }
     }
     Word::Unknown
 }
 
 // Of all words. A text that is empty or begins with `#` says nothing.
+#[tactic(auto, unfolding(crate::specs::Words::word_of))]
 pub fn word_of(s: &[u8]) -> Word
     ensures { result ≡ word_of s.now }
 {
@@ -42,23 +44,5 @@ pub fn word_of(s: &[u8]) -> Word
     if (first == 0) | (first == b'#') {
         return Word::Blank;
     }
-    if is_same(b"room", s) {
-        return Word::Room;
-    }
-    if is_same(b"nobody", s) {
-        return Word::Nobody;
-    }
-    if is_same(b"owner", s) {
-        return Word::Owner;
-    }
-    if is_same(b"direct", s) {
-        return Word::Direct;
-    }
-    if is_same(b"indirect", s) {
-        return Word::Indirect;
-    }
-    if is_same(b"provider", s) {
-        return Word::Provider;
-    }
-    call_of(s)
+    named(&NAMES, s)
 }

@@ -1,4 +1,4 @@
-// The values behind a line's word.
+// The values after a line's word.
 ghost use Rattle.std.specs.Prelude.{◌≡◌, ◌≤◌, length};
 ghost use Rattle.script.specs.Said.{value_of};
 ghost use Rattle.script.specs.Words.{values_most, wants};
@@ -7,9 +7,10 @@ ghost use Rattle.script.specs.Lines.{taken};
 use crate::text::{skip_blanks, word_end};
 use crate::value::{date_of, either, limit_of, number_of, sum_of};
 use crate::{VALUES_MOST, Word};
-use shape::value::Value;
+use Want::{Answer, Date, Instant, Limit, Number, Sum};
 
-// What was taken: whether it is all that was wanted, how many values, the values, and where the next word begins.
+// What was taken: whether it is all that was wanted, how many values, the values, and where the next word begins. It is no Option:
+// `line_of` says the values of a bad line too, and an open takes as many sums as there are.
 #[derive(Clone, Copy)]
 pub struct Taken {
     pub all: bool,
@@ -18,32 +19,45 @@ pub struct Taken {
     pub rest: usize,
 }
 
-// What a word says where this is wanted: a number, a sum, a date, an answer, instant or ordinary, a limit, each by its first letter.
-fn value_of(want: u8, s: &[u8]) -> Value
+// What may be wanted of a word.
+#[derive(Clone, Copy, PartialEq, Eq, Debug)]
+pub enum Want {
+    Number,
+    Sum,
+    Date,
+    // Yes or no.
+    Answer,
+    // Instant or ordinary.
+    Instant,
+    Limit,
+}
+
+// What a word says where this is wanted.
+#[tactic(auto, unfolding(crate::specs::Said::value_of))]
+fn value_of(want: Want, s: &[u8]) -> Option<u64>
     ensures { result ≡ value_of want s.now }
 {
     match want {
-        b'n' => number_of(s),
-        b's' => sum_of(s),
-        b'd' => date_of(s),
-        b'a' => either(b"yes", b"no", s),
-        b'i' => either(b"instant", b"ordinary", s),
-        b'l' => limit_of(s),
-        _ => Value::None,
+        Number => number_of(s),
+        Sum => sum_of(s),
+        Date => date_of(s),
+        Answer => either(b"yes", b"no", s),
+        Instant => either(b"instant", b"ordinary", s),
+        Limit => limit_of(s),
     }
 }
 
 // Takes a word for each want, up to the first that does not say what is wanted. Past the last stands an empty one, which says nothing.
-fn take_values(wants: &[u8], s: &[u8], from: usize) -> Taken
+#[tactic(auto, using(crate::proofs::Takes::takes), unfolding(crate::specs::Lines::taken))]
+fn take_values(wants: &[Want], s: &[u8], from: usize) -> Taken
     requires { (length wants.now ≤ values_most) × (from ≤ length s.now) }
     ensures { result ≡ taken wants.now s.now from }
 {
     let mut values = [0u64; VALUES_MOST];
-    let mut count = 0;
     let mut rest = from;
-    while count < wants.len() {
+    for (count, want) in wants.iter().enumerate() {
         let end = word_end(s, rest);
-        let Value::Of(n) = value_of(wants[count], &s[rest..end]) else {
+        let Some(n) = value_of(*want, &s[rest..end]) else {
             return Taken {
                 all: false,
                 count,
@@ -52,33 +66,44 @@ fn take_values(wants: &[u8], s: &[u8], from: usize) -> Taken
             };
         };
         values[count] = n;
-        count += 1;
         rest = skip_blanks(s, end);
     }
     Taken {
         all: true,
-        count,
+        count: wants.len(),
         values,
         rest,
     }
 }
 
-// Takes what a word asks for: open has a seat and at most 34 sums.
+// An open has a seat and at most 34 sums.
+const OPEN: [Want; VALUES_MOST] = [
+    Number, Sum, Sum, Sum, Sum, Sum, Sum, Sum, Sum, Sum, Sum, Sum, Sum, Sum, Sum, Sum, Sum, Sum,
+    Sum, Sum, Sum, Sum, Sum, Sum, Sum, Sum, Sum, Sum, Sum, Sum, Sum, Sum, Sum, Sum, Sum,
+];
+
+// What a word asks for.
+#[tactic(auto, unfolding(crate::specs::Words::wants))]
+fn wants(word: Word) -> &'static [Want]
+    ensures { result.now ≡ wants word }
+{
+    match word {
+        Word::Owner => &[Number, Instant],
+        Word::Direct | Word::Indirect | Word::Provider => &[Number, Number, Instant],
+        Word::Open => &OPEN,
+        Word::Close | Word::Back => &[Number, Number],
+        Word::Set => &[Number, Number, Number, Number, Answer, Answer, Sum, Limit],
+        Word::Submit => &[Number, Number, Number, Date],
+        Word::Read => &[Number, Number, Number, Number],
+        _ => &[],
+    }
+}
+
+// Takes what a word asks for.
+#[tactic(auto, using(crate::proofs::Takes::wants_few), unfolding(crate::specs::Words::wants))]
 pub fn values_of(word: Word, s: &[u8], from: usize) -> Taken
     requires { from ≤ length s.now }
     ensures { result ≡ taken (wants word) s.now from }
 {
-    match word {
-        Word::Owner => take_values(b"ni", s, from),
-        Word::Direct => take_values(b"nni", s, from),
-        Word::Indirect => take_values(b"nni", s, from),
-        Word::Provider => take_values(b"nni", s, from),
-        Word::Open => take_values(b"nssssssssssssssssssssssssssssssssss", s, from),
-        Word::Close => take_values(b"nn", s, from),
-        Word::Set => take_values(b"nnnnaasl", s, from),
-        Word::Submit => take_values(b"nnnd", s, from),
-        Word::Back => take_values(b"nn", s, from),
-        Word::Read => take_values(b"nnnn", s, from),
-        _ => take_values(b"", s, from),
-    }
+    take_values(wants(word), s, from)
 }

@@ -1,14 +1,14 @@
 -- What opening, setting and taking back ask of the functions that they call, from the seat's fitness and the tests that were passed.
 -- Assumes nothing.
+use Rattle.std.specs.Prelude.{Option, Some}
 use mathlib.Core.Path.{◌≡◌, sym, ap, subst}
-use mathlib.Core.Bool.{true, false, ◌&&◌}
+use mathlib.Core.Bool.{true, false}
 use mathlib.Core.List.{List}
 use Prim.Native.Nat.{ℕ, ◌≤◌, ◌<◌}
 use native.Mathlib.Omega.{arith}
 use lib.ListN.{length}
-use Rattle.shape.proofs.Tests.{and_left, and_right}
 use Rattle.slip.specs.Meaning.{openings, steps}
-use Rattle.directory.specs.declared.Found.{Found}
+use Rattle.directory.specs.declared.Listed.{Listed}
 use Rattle.layout.specs.declared.rows.Settings.{Settings}
 use Rattle.layout.specs.declared.rows.Account.{Account}
 use Rattle.layout.specs.declared.rows.Head.{Head}
@@ -18,12 +18,12 @@ use Rattle.journal.specs.Low.{Low}
 use Rattle.journal.specs.Steps.{settings_fit, step_fits}
 use Rattle.journal.specs.Working.{last_step}
 use Rattle.seat.specs.Fit.{open_fits, seat_fits}
-use Rattle.seat.specs.Calls.{no_ticket, account_named, account_number, place_fits, set_step}
+use Rattle.seat.specs.Calls.{no_ticket, account_found, place_fits, set_step}
 use Rattle.seat.proofs.Forward.{open-fits, fit_low}
 use Rattle.seat.proofs.Reached.{fit-last, fit-settings}
 use Rattle.seat.proofs.Answered.{ticket-good}
 use Rattle.seat.proofs.Kept.{fit-open, fit-number}
-use Rattle.seat.proofs.Named.{account-low, set-step-fits}
+use Rattle.seat.proofs.Named.{account-found-low, set-step-fits}
 
 -- one opening more fits its type
 pub opening-low : (s : List ℕ) → seat_fits s ≡ true → (h : Head) → h ≡ head_of s → h.opening ≤ openings
@@ -46,19 +46,18 @@ module _ (opening : ℕ) (s : List ℕ) (l : length s ≡ seat_long) (f : seat_f
       (fit_low s l fits, fit-last s l fits some, some, (open-fits s fits).count)
 
   -- set
-  pub set-asks : (owner : Found) (number : ℕ) (given : Settings) → (account_named owner number && settings_fit given) ≡ true
-      → place_fits owner ≡ true → (h.steps ≡ steps → ⊥) → (i : ℕ) → i ≡ account_number owner number → (a : Account) → a ≡ account_of s i
+  pub set-asks : (owner : Option Listed) (number : ℕ) (given : Settings) → settings_fit given ≡ true
+      → place_fits owner ≡ true → (h.steps ≡ steps → ⊥) → (i : ℕ) → account_found owner number ≡ Some i → (a : Account) → a ≡ account_of s i
       → (x : Step) → x ≡ set_step i a.settings given
       → Low s × (step_fits x ≡ true) × ((head_of s).steps < steps)
   set-asks owner number given b p q i m a k x y =
       let same : h.steps ≡ (head_of s).steps = count in
       let few : (head_of s).steps ≤ steps = (open-fits s fits).count in
-      let named : account_named owner number ≡ true = and_left (account_named owner number) (settings_fit given) b in
-      let within : i < accounts = subst (λ (j : ℕ). j < accounts) (sym m) (account-low owner number named p) in
+      let within : i < accounts = account-found-low owner number i p m in
       let old : settings_fit a.settings ≡ true =
       subst (λ (c : Account). settings_fit c.settings ≡ true) (sym k) (fit-settings s l fits i within) in (
         fit_low s l fits,
         subst (λ (z : Step). step_fits z ≡ true) (sym y)
-            (set-step-fits i a.settings given within old (and_right (account_named owner number) (settings_fit given) b)),
+            (set-step-fits i a.settings given within old b),
         omega (arith, q, same, few),
       )

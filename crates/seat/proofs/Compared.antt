@@ -1,47 +1,30 @@
--- What one turn of a loop over the numbers of a seat does: the definitions at `drop i s`, one number further on.
+-- What a seat is compared by: two lists of numbers, and a list of zeros.
 -- Assumes nothing.
-use mathlib.Core.Path.{◌≡◌, refl, ap, subst, ◌∙◌}
-use mathlib.Core.Bool.{Bool, true, false, ◌&&◌}
+use Rattle.std.specs.Prelude.{nat_eq}
+use Rattle.std.specs.Cmp.Lexicographic.{pointwise}
+use mathlib.Core.Path.{◌≡◌, refl, ap, subst}
+use mathlib.Core.Bool.{Bool, false, ◌&&◌}
 use mathlib.Core.List.{List, [], ◌∷◌}
-use Prim.Native.Nat.{ℕ, suc, ◌+◌, ◌-◌, ◌≤◌, ◌<◌}
+use Prim.Native.Nat.{ℕ, ◌-◌, ◌≤◌, ◌<◌}
 use native.Mathlib.Omega.{arith}
-use native.Mathlib.Numerals.{add-one}
 use lib.Dec.{eqb}
-use lib.ListN.{length, get_or, drop, replicate, drop_of_length-le}
-use lib.Seq.{drop-cons}
-use borrow.Author.Tests.{eq-eqb, ne_eqb, le-leb, lt-leb}
+use lib.ListN.{length, get_or, take, drop, replicate}
+use lib.Seq.{take_all}
+use borrow.Author.Tests.{eq-eqb, le-leb, lt-leb}
 use Rattle.shape.specs.Bytes.{every}
-use Rattle.shape.proofs.Tests.{and-false}
 use Rattle.slip.specs.Meaning.{openings}
 use Rattle.layout.specs.Parts.{part}
 use Rattle.layout.specs.Rows.{head_row, head_in}
 use Rattle.layout.specs.Seat.{seat_long, head_of}
 use Rattle.seat.specs.Fit.{same, closed_seat, closed_fits}
 
--- lists of different lengths are not the same
-pub unlike : (s t : List ℕ) → (length s ≡ length t → ⊥) → same s t ≡ false
+-- two lists are the same where they are number by number
+pub same-pointwise : (s t : List ℕ) → pointwise nat_eq s t ≡ same s t
 unfolding same
-unlike [] [] h = absurd (h refl)
-unlike [] (b ∷ t) h = refl
-unlike (a ∷ s) [] h = refl
-unlike (a ∷ s) (b ∷ t) h = and-false (eqb a b) (same s t) (unlike s t (λ e. h (ap suc e)))
-
-module _ (s t : List ℕ) (i : ℕ) where
-  same_turn : i < length s → i < length t
-      → same (drop i s) (drop i t) ≡ (eqb (get_or s i 0) (get_or t i 0) && same (drop (i + 1) s) (drop (i + 1) t))
-  unfolding same
-  same_turn hs ht = rw (add-one, drop-cons s i 0 hs, drop-cons t i 0 ht)
-
-  pub same-hit : i < length s → i < length t → get_or s i 0 ≡ get_or t i 0
-      → same (drop i s) (drop i t) ≡ same (drop (i + 1) s) (drop (i + 1) t)
-  same-hit hs ht e = same_turn hs ht ∙ rw (eq-eqb (get_or s i 0) (get_or t i 0) e)
-
-  pub same-miss : i < length s → i < length t → (get_or s i 0 ≡ get_or t i 0 → ⊥) → same (drop i s) (drop i t) ≡ false
-  same-miss hs ht e = same_turn hs ht ∙ rw (ne_eqb (get_or s i 0) (get_or t i 0) e)
-
-  pub same_end : length s ≤ i → length t ≤ i → same (drop i s) (drop i t) ≡ true
-  unfolding same
-  same_end hs ht = rw (drop_of_length-le s hs, drop_of_length-le t ht)
+same-pointwise [] [] = refl
+same-pointwise [] (b ∷ t) = refl
+same-pointwise (a ∷ s) [] = refl
+same-pointwise (a ∷ s) (b ∷ t) = ap (λ (rest : Bool). eqb a b && rest) (same-pointwise s t)
 
 -- a list is the same as that many zeros where each of its numbers is zero
 abbrev pub is_zero : ℕ → Bool
@@ -67,6 +50,10 @@ closed-zeros a s l =
 pub closed-rest : (s : List ℕ) → length s ≡ seat_long → same s (closed_seat (get_or s 0 0)) ≡ every is_zero (drop 1 s)
 closed-rest [] l = absurd (omega (arith, l))
 closed-rest (a ∷ s) l = closed-zeros a s (omega (arith, l))
+
+pub rest-whole : (s : List ℕ) → take (length s - 1) (drop 1 s) ≡ drop 1 s
+rest-whole [] = refl
+rest-whole (a ∷ s) = take_all (length (a ∷ s) - 1) s (omega arith)
 
 module _ (s : List ℕ) where
   pub closed-high : openings < get_or s 0 0 → false ≡ closed_fits s

@@ -1,10 +1,10 @@
 -- Working forward: a seat that was opened and then worked has the journal, the opening number and the opening sums that it was worked
 -- from, so a fit seat stays fit by one step more and by its last step taken back.
 -- Assumes nothing.
+use Rattle.std.specs.Prelude.{Option, Some, None}
 use mathlib.Core.Path.{◌≡◌, refl, sym, ap, subst, ◌∙◌}
 use mathlib.Core.Bool.{Bool, true, ◌&&◌, false≢true}
 use mathlib.Core.List.{List, [], ◌∷◌, ◌++◌}
-use mathlib.Core.Option.{Option, none, some}
 use Prim.Native.Nat.{ℕ, ◌+◌, ◌-◌, ◌≤◌, ◌<◌}
 use native.Mathlib.Omega.{arith}
 use lib.Dec.{leb, eqb}
@@ -55,7 +55,7 @@ same-itself (a ∷ s) = rw (eq-eqb a a refl, same-itself s)
 
 -- a seat that was opened and worked: its count, opening number, journal and opening sums are those that it was worked from
 module _ (opening : ℕ) (sums : List ℕ) (xs : List Step) (t : List ℕ) (few : length xs ≤ steps)
-    (w : worked xs (open_seat opening sums) ≡ some t) where
+    (w : worked xs (open_seat opening sums) ≡ Some t) where
   nothing_yet : (head_of (open_seat opening sums)).steps ≡ 0
   nothing_yet = ap (λ (h : Head). h.steps) (opened-head opening sums)
 
@@ -102,11 +102,11 @@ pub record Fits (s : List ℕ) : Type 0 where
   pub most : (head_of s).opening ≤ openings
   pub count : (head_of s).steps ≤ steps
   pub sums : every (λ (sum : ℕ). leb sum sum_most) (sums_of s) ≡ true
-  pub comes : worked (journal_of s) (open_seat (head_of s).opening (sums_of s)) ≡ some s
+  pub comes : worked (journal_of s) (open_seat (head_of s).opening (sums_of s)) ≡ Some s
 
-comes-out : (s : List ℕ) (o : Option (List ℕ)) → comes_out s o ≡ true → o ≡ some s
-comes-out s none e = absurd (false≢true e)
-comes-out s (some t) e = ap some (same_true t s e)
+comes-out : (s : List ℕ) (o : Option (List ℕ)) → comes_out s o ≡ true → o ≡ Some s
+comes-out s None e = absurd (false≢true e)
+comes-out s (Some t) e = ap Some (same_true t s e)
 
 pub open-fits : (s : List ℕ) → open_fits s ≡ true → Fits s
 unfolding open_fits
@@ -140,7 +140,7 @@ fits-open s f =
 
 -- what was opened within the ranges and worked fits
 pub fit-made : (opening : ℕ) (sums : List ℕ) (xs : List Step) (t : List ℕ) → 1 ≤ opening → opening ≤ openings → length sums ≡ accounts
-    → every (λ (sum : ℕ). leb sum sum_most) sums ≡ true → length xs ≤ steps → worked xs (open_seat opening sums) ≡ some t → open_fits t ≡ true
+    → every (λ (sum : ℕ). leb sum sum_most) sums ≡ true → length xs ≤ steps → worked xs (open_seat opening sums) ≡ Some t → open_fits t ≡ true
 fit-made opening sums xs t a b l e few w =
     let number : (head_of t).opening ≡ opening = made-opening opening sums xs t few w in
     let long : (head_of t).steps ≡ length xs = made-count opening sums xs t few w in
@@ -180,7 +180,7 @@ fit-back s l e h =
     let few : length xs ≤ steps = omega arith in
     let from : List ℕ = open_seat (head_of s).opening (sums_of s) in
     let last : Last (step_of s n) xs from s =
-    worked-last (step_of s n) xs from s (subst (λ (ys : List Step). worked ys from ≡ some s) (journal-last s h) f.comes) in
+    worked-last (step_of s n) xs from s (subst (λ (ys : List Step). worked ys from ≡ Some s) (journal-last s h) f.comes) in
     let r : Reached xs from last.behind = made (head_of s).opening (sums_of s) xs last.behind few last.before in
     let count : (head_of last.behind).steps ≡ length xs = made-count (head_of s).opening (sums_of s) xs last.behind few last.before in
     let room : (head_of last.behind).steps < steps = omega arith in

@@ -1,6 +1,7 @@
 -- Every call keeps a seat fit, whether it is refused or done: a call that is done opens, closes, works one step or takes one back, and each of
 -- these leaves a fit seat. What is laid out first, zeros only, is fit.
 -- Assumes nothing.
+use Rattle.std.specs.Prelude.{Option, Ok}
 use mathlib.Core.Path.{◌≡◌, refl, ap, ◌∙◌}
 use mathlib.Core.Bool.{Bool, true, false, ◌&&◌, ◌||◌, cond, false≢true}
 use mathlib.Core.List.{List, [], ◌∷◌}
@@ -13,7 +14,7 @@ use Rattle.shape.specs.Bytes.{every}
 use Rattle.shape.proofs.Tests.{and_left, and_right}
 use Rattle.slip.specs.Meaning.{openings, steps}
 use Rattle.directory.specs.declared.Participant.{Participant}
-use Rattle.directory.specs.declared.Found.{Found}
+use Rattle.directory.specs.declared.Listed.{Listed}
 use Rattle.directory.specs.Directory.{records_most, is_owner}
 use Rattle.layout.specs.declared.rows.Head.{Head}
 use Rattle.layout.specs.declared.rows.Settings.{Settings}
@@ -26,7 +27,6 @@ use Rattle.journal.specs.Answers.{answerable}
 use Rattle.journal.specs.Working.{stepped, backed, covered, possible, journal_of}
 use Rattle.journal.proofs.StepLaws.{settings-same}
 use Rattle.journal.proofs.WorkedLaws.{journal-long}
-use Rattle.seat.specs.declared.calls.Answer.TheVariants.{Done}
 use Rattle.seat.specs.Fit.{same, closed_seat, open_seat, sums_of, open_fits, closed_fits, seat_fits, room_fits}
 use Rattle.seat.specs.Calls.{
   pair_good,
@@ -118,7 +118,7 @@ pub open-keeps : (dir : List Participant) (sums s : List ℕ) → length dir ≤
 unfolding open_after
 open-keeps dir sums s l e =
     behind-keeps (λ (t : List ℕ). seat_fits t ≡ true) (open_answer dir sums s) (open_seat (suc (head_of s).opening) sums) s
-    (λ (d : open_answer dir sums s ≡ Done).
+    (λ (d : open_answer dir sums s ≡ Ok tt).
     let facts = open_done dir sums s d in
     let left : (head_of s).opening ≡ openings → ⊥ = facts.1 in
     let good = good-sums dir sums facts.2 in
@@ -146,7 +146,7 @@ pub close-keeps : (opening : ℕ) (s : List ℕ) → seat_fits s ≡ true → se
 unfolding close_after
 close-keeps opening s e =
     behind-keeps (λ (t : List ℕ). seat_fits t ≡ true) (close_answer opening s) (closed_seat (head_of s).opening) s
-    (λ (d : close_answer opening s ≡ Done). closed-seat-fits (head_of s).opening (fit-number s e))
+    (λ (d : close_answer opening s ≡ Ok tt). closed-seat-fits (head_of s).opening (fit-number s e))
     e
 
 -- one step more
@@ -166,8 +166,8 @@ set-possible i given s l e b f =
     rw (set-step-fits i (account_of s i).settings given b (fit-settings s l e i b) f, set-covered i given s)
 
 -- a set that was done was a possible step of an open seat with a free place
-module _ (opening : ℕ) (owner : Found) (number : ℕ) (given : Settings) (s : List ℕ) (p : place_fits owner ≡ true) (e : seat_fits s ≡ true)
-    (d : set_answer opening owner number given s ≡ Done) where
+module _ (opening : ℕ) (owner : Option Listed) (number : ℕ) (given : Settings) (s : List ℕ) (p : place_fits owner ≡ true) (e : seat_fits s ≡ true)
+    (d : set_answer opening owner number given s ≡ Ok tt) where
   pub set-open : (head_of s).opened ≡ 1
   set-open = (ticket-good opening s (set-done opening owner number given s d).0).0
 
@@ -184,13 +184,13 @@ module _ (opening : ℕ) (owner : Found) (number : ℕ) (given : Settings) (s : 
       (set-done opening owner number given s d).2
 
 -- set
-pub set_keeps : (opening : ℕ) (owner : Found) (number : ℕ) (given : Settings) (s : List ℕ) → place_fits owner ≡ true → seat_fits s ≡ true
+pub set_keeps : (opening : ℕ) (owner : Option Listed) (number : ℕ) (given : Settings) (s : List ℕ) → place_fits owner ≡ true → seat_fits s ≡ true
     → seat_fits (set_after opening owner number given s) ≡ true
 unfolding set_after
 set_keeps opening owner number given s p e =
     let x : Step = set_step (account_number owner number) (account_of s (account_number owner number)).settings given in
     behind-keeps (λ (t : List ℕ). seat_fits t ≡ true) (set_answer opening owner number given s) (stepped x s) s
-    (λ (d : set_answer opening owner number given s ≡ Done).
+    (λ (d : set_answer opening owner number given s ≡ Ok tt).
     record-keeps x s e (set-open opening owner number given s p e d) (set_room opening owner number given s p e d)
     (set-can opening owner number given s p e d))
     e
@@ -200,7 +200,7 @@ pub back-keeps : (opening : ℕ) (s : List ℕ) → seat_fits s ≡ true → sea
 unfolding back_after
 back-keeps opening s e =
     behind-keeps (λ (t : List ℕ). seat_fits t ≡ true) (back_answer opening s) (backed s) s
-    (λ (d : back_answer opening s ≡ Done).
+    (λ (d : back_answer opening s ≡ Ok tt).
     let facts = back_done opening s d in
     let some-step : (head_of s).steps ≡ 0 → ⊥ = facts.1 in
     let fits : open_fits s ≡ true = fit-open s e (ticket-good opening s facts.0).0 in

@@ -10,7 +10,6 @@ pub mod Opened
 pub mod Opening
 pub mod Pairs
 pub mod Reached
-pub mod Refusals
 pub mod Rooms
 pub mod Settled
 pub mod Traces

@@ -1,5 +1,6 @@
 -- The settings that an account opens with: none at all where its sum is 0, and such as fit where the sum is one.
 -- Assumes nothing.
+use Rattle.std.specs.Prelude.{Some, None}
 use mathlib.Core.Path.{◌≡◌}
 use mathlib.Core.Bool.{Bool, true, false, cond}
 use Prim.Native.Nat.{ℕ, ◌+◌, ◌≤◌}
@@ -8,7 +9,6 @@ use lib.Dec.{eqb}
 use borrow.Author.Tests.{le-leb}
 use Rattle.journal.specs.Steps.{sum_most, settings_fit}
 use Rattle.journal.proofs.Settings.{no-settings-fit}
-use Rattle.seat.specs.declared.settings.Limit.TheVariants.{None, Of}
 use Rattle.seat.specs.Settings.{limit_number, settings_of, opening_limit, opening_settings}
 
 pub opening-settings-fit : (sum : ℕ) → sum ≤ sum_most → settings_fit (opening_settings sum) ≡ true
@@ -18,6 +18,6 @@ opening-settings-fit sum most = go (eqb sum 0)
     above : sum + 1 ≤ sum_most + 1
     above = omega arith
 
-    go : (zero : Bool) → settings_fit (record { out = 0; into = 0; ltk = 0; lpo = limit_number (cond zero None (Of sum)) }) ≡ true
+    go : (zero : Bool) → settings_fit (record { out = 0; into = 0; ltk = 0; lpo = limit_number (cond zero None (Some sum)) }) ≡ true
     go true = no-settings-fit
     go false = rw (le-leb sum sum_most most) (le-leb (sum + 1) (sum_most + 1) above)

@@ -63,9 +63,6 @@ opens-turn opening i sums s t a h l was new e =
     (opens-next opening (take i sums) (get_or sums i 0) (omega arith)) in
     rw (e, was, new, add-one i, take-suc sums i 0 h) turn
 
-pub opens-all : (opening i : ℕ) (sums s : List ℕ) → length sums ≤ i → s ≡ open_seat opening (take i sums) → s ≡ open_seat opening sums
-opens-all opening i sums s h e = e ∙ ap (open_seat opening) (take_all i sums h)
-
 -- the sums that are read: what was read so far, and then what is left to read
 sums-left : (s : List ℕ) (i n : ℕ) → i < n → sums_from s i (n - i) ≡ (account_of s i).opening ∷ sums_from s (i + 1) (n - (i + 1))
 unfolding sums_from

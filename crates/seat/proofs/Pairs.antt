@@ -1,14 +1,13 @@
 -- Two sums for each record: the test at a record and its two sums, one record further on, and at the end. Where it holds, there are twice
 -- as many sums as records.
 -- Assumes nothing.
-use mathlib.Core.Path.{◌≡◌, refl, sym, ap, ◌∙◌}
+use mathlib.Core.Path.{◌≡◌, refl, ap, ◌∙◌}
 use mathlib.Core.Bool.{Bool, true, false, ◌&&◌, false≢true}
-use mathlib.Core.List.{List, [], ◌∷◌}
-use Prim.Native.Nat.{ℕ, suc, ◌+◌, ◌*◌, ◌≤◌, ◌<◌}
+use mathlib.Core.List.{List, [], ◌∷◌, ◌++◌}
+use Prim.Native.Nat.{ℕ, ◌*◌, ◌≤◌}
 use native.Mathlib.Omega.{arith}
-use native.Mathlib.Numerals.{add-one}
-use lib.ListN.{length, get_or, drop, drop_of_length-le}
-use lib.Seq.{drop-cons, get_or-take, length-take-le}
+use Rattle.std.proofs.Common.{min}
+use lib.ListN.{length, get_or, take, length-take, length-append}
 use Rattle.shape.proofs.Tests.{and_right}
 use Rattle.directory.specs.declared.Participant.{Participant}
 use Rattle.directory.specs.declared.Gathered.{Gathered}
@@ -36,63 +35,49 @@ good-one : (p : Participant) (dir : List Participant) (a b : ℕ) (sums : List �
 unfolding sums_good
 good-one p dir a b sums = refl
 
-module _ (g : Gathered) (full : length g.records ≡ records_most) (few : g.count ≤ records_most) where
-  pub records-length : length (records_in g) ≡ g.count
-  records-length = length-take-le g.count g.records (omega (arith, full, few))
+-- the records of a directory that holds few are few
+pub records-few : (g : Gathered) → g.count ≤ records_most → length (records_in g) ≤ records_most
+records-few g h =
+    let long : length (take g.count g.records) ≡ min g.count (length g.records) = length-take g.count g.records in
+    omega (arith, long, h)
 
-  -- no more sums than a seat has accounts
-  pub sums-few : (sums : List ℕ) → sums_good (records_in g) sums ≡ true → length sums ≤ accounts
-  sums-few sums e =
-      let twice : length sums ≡ 2 * length (records_in g) = good_length (records_in g) sums e in
-      omega (arith, twice, records-length, few)
+-- no more sums than a seat has accounts
+pub sums-few : (dir : List Participant) (sums : List ℕ) → length dir ≤ records_most → sums_good dir sums ≡ true → length sums ≤ accounts
+sums-few dir sums few e = omega (arith, good_length dir sums e, few)
 
-  module _ (sums : List ℕ) where
-    -- another number of sums
-    pub pairs-unlike : (length sums ≡ 2 * g.count → ⊥) → sums_good (records_in g) sums ≡ false
-    pairs-unlike apart = go (sums_good (records_in g) sums) refl
-      where
-        go : (t : Bool) → sums_good (records_in g) sums ≡ t → sums_good (records_in g) sums ≡ false
-        go true e = absurd (apart (good_length (records_in g) sums e ∙ ap (λ (n : ℕ). 2 * n) records-length))
-        go false e = e
+module _ (dir : List Participant) (sums : List ℕ) where
+  -- another number of sums
+  pub pairs-unlike : (length sums ≡ 2 * length dir → ⊥) → sums_good dir sums ≡ false
+  pairs-unlike apart = go (sums_good dir sums) refl
+    where
+      go : (t : Bool) → sums_good dir sums ≡ t → sums_good dir sums ≡ false
+      go true e = absurd (apart (good_length dir sums e))
+      go false e = e
 
-    module _ (long : length sums ≡ 2 * g.count) (i : ℕ) where
-      pairs-turn : (d : Participant) → i < g.count
-          → sums_good (drop i (records_in g)) (drop (2 * i) sums)
-          ≡ (pair_good (get_or g.records i d) (get_or sums (2 * i) 0) (get_or sums (2 * i + 1) 0)
-          && sums_good (drop (i + 1) (records_in g)) (drop (2 * (i + 1)) sums))
-      pairs-turn d h =
-          let one : drop i (records_in g) ≡ get_or g.records i d ∷ drop (i + 1) (records_in g) =
-          drop-cons (records_in g) i d (omega (arith, h, records-length))
-          ∙ ap (λ (p : Participant). p ∷ drop (suc i) (records_in g)) (get_or-take g.count g.records i d h)
-          ∙ ap (λ (n : ℕ). get_or g.records i d ∷ drop n (records_in g)) (sym (add-one i)) in
-          let behind : suc (2 * i + 1) ≡ 2 * (i + 1) = omega arith in
-          let second : drop (2 * i + 1) sums ≡ get_or sums (2 * i + 1) 0 ∷ drop (2 * (i + 1)) sums =
-          drop-cons sums (2 * i + 1) 0 (omega (arith, h, long))
-          ∙ ap (λ (n : ℕ). get_or sums (2 * i + 1) 0 ∷ drop n sums) behind in
-          let pair : drop (2 * i) sums ≡ get_or sums (2 * i) 0 ∷ get_or sums (2 * i + 1) 0 ∷ drop (2 * (i + 1)) sums =
-          drop-cons sums (2 * i) 0 (omega (arith, h, long))
-          ∙ ap (λ (n : ℕ). get_or sums (2 * i) 0 ∷ drop n sums) (sym (add-one (2 * i)))
-          ∙ ap (λ (t : List ℕ). get_or sums (2 * i) 0 ∷ t) second in
-          ap (λ (t : List Participant). sums_good t (drop (2 * i) sums)) one
-          ∙ ap (λ (t : List ℕ). sums_good (get_or g.records i d ∷ drop (i + 1) (records_in g)) t) pair
-          ∙ good-one (get_or g.records i d) (drop (i + 1) (records_in g)) (get_or sums (2 * i) 0) (get_or sums (2 * i + 1) 0)
-          (drop (2 * (i + 1)) sums)
+-- one record and its two sums, and what is left
+pair-turn : (p : Participant) (dir : List Participant) (pair sums : List ℕ) → length pair ≡ 2
+    → sums_good (p ∷ dir) (pair ++ sums) ≡ (pair_good p (get_or pair 0 0) (get_or pair 1 0) && sums_good dir sums)
+pair-turn p dir [] sums long = absurd (omega (arith, long))
+pair-turn p dir (a ∷ []) sums long = absurd (omega (arith, long))
+pair-turn p dir (a ∷ b ∷ []) sums long = good-one p dir a b sums
+pair-turn p dir (a ∷ b ∷ c ∷ pair) sums long = absurd (omega (arith, long))
 
-      module _ (d : Participant) (h : i < g.count) where
-        pub pairs-hit : pair_good (get_or g.records i d) (get_or sums (2 * i) 0) (get_or sums (2 * i + 1) 0) ≡ true
-            → sums_good (drop i (records_in g)) (drop (2 * i) sums) ≡ sums_good (drop (i + 1) (records_in g)) (drop (2 * (i + 1)) sums)
-        pairs-hit e =
-            pairs-turn d h ∙ ap (λ (t : Bool). t && sums_good (drop (i + 1) (records_in g)) (drop (2 * (i + 1)) sums)) e
+module _ {p : Participant} {dir rest : List Participant} {sums : List ℕ} (pair left : List ℕ) (one : dir ≡ p ∷ rest) (two : sums ≡ pair ++ left)
+    (long : length pair ≡ 2) where
+  pairs-turn : sums_good dir sums ≡ (pair_good p (get_or pair 0 0) (get_or pair 1 0) && sums_good rest left)
+  pairs-turn = ap (λ (t : List Participant). sums_good t sums) one ∙ ap (sums_good (p ∷ rest)) two ∙ pair-turn p rest pair left long
 
-        pub pairs-miss : pair_good (get_or g.records i d) (get_or sums (2 * i) 0) (get_or sums (2 * i + 1) 0) ≡ false
-            → sums_good (drop i (records_in g)) (drop (2 * i) sums) ≡ false
-        pairs-miss e =
-            pairs-turn d h ∙ ap (λ (t : Bool). t && sums_good (drop (i + 1) (records_in g)) (drop (2 * (i + 1)) sums)) e
+  pub pairs-hit : pair_good p (get_or pair 0 0) (get_or pair 1 0) ≡ true → sums_good dir sums ≡ sums_good rest left
+  pairs-hit e = pairs-turn ∙ ap (λ (t : Bool). t && sums_good rest left) e
 
-      pub pairs_end : g.count ≤ i → sums_good (drop i (records_in g)) (drop (2 * i) sums) ≡ true
-      pairs_end h =
-          let no_record : length (records_in g) ≤ i = omega (arith, h, records-length) in
-          let no-sum : length sums ≤ 2 * i = omega (arith, h, long) in
-          ap (λ (t : List Participant). sums_good t (drop (2 * i) sums)) (drop_of_length-le (records_in g) no_record)
-          ∙ ap (λ (t : List ℕ). sums_good [] t) (drop_of_length-le sums no-sum)
-          ∙ good_none
+  pub pairs-miss : pair_good p (get_or pair 0 0) (get_or pair 1 0) ≡ false → sums_good dir sums ≡ false
+  pairs-miss e = pairs-turn ∙ ap (λ (t : Bool). t && sums_good rest left) e
+
+  pub pairs-left : length sums ≡ 2 * length dir → length left ≡ 2 * length rest
+  pairs-left h = omega (arith, h, ap length one, ap length two, long, length-append pair left)
+
+pub pairs_end : (dir : List Participant) (sums : List ℕ) → length dir ≡ 0 → length sums ≡ 0 → sums_good dir sums ≡ true
+unfolding sums_good
+pairs_end [] [] h k = refl
+pairs_end [] (a ∷ sums) h k = absurd (omega (arith, k))
+pairs_end (p ∷ dir) sums h k = absurd (omega (arith, h))

@@ -1,10 +1,10 @@
 -- What holds of every open seat that fits, because it was opened and then worked: its last step fits, its settings fit, the place behind its
 -- journal is free, and its balances sum up to what it was opened with.
 -- Assumes nothing.
+use Rattle.std.specs.Prelude.{Some}
 use mathlib.Core.Path.{◌≡◌, refl, sym, ap, subst, ◌∙◌}
 use mathlib.Core.Bool.{true}
 use mathlib.Core.List.{List}
-use mathlib.Core.Option.{some}
 use Prim.Native.Nat.{ℕ, zero, suc, ◌+◌, ◌-◌, ◌≤◌, ◌<◌}
 use native.Mathlib.Omega.{arith}
 use lib.ListN.{length, get_or}
@@ -33,7 +33,7 @@ fit-last s l e h =
     let xs : List Step = steps_from s 0 ((head_of s).steps - 1) in
     let from : List ℕ = open_seat (head_of s).opening (sums_of s) in
     let last : Last (last_step s) xs from s =
-    worked-last (last_step s) xs from s (subst (λ (ys : List Step). worked ys from ≡ some s) (journal-last s h) f.comes) in
+    worked-last (last_step s) xs from s (subst (λ (ys : List Step). worked ys from ≡ Some s) (journal-last s h) f.comes) in
     possible-fits (last_step s) last.behind last.can
 
 -- the place behind the journal

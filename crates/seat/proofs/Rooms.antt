@@ -2,24 +2,20 @@
 -- fit seat put in place of another the room stays fit.
 -- Assumes nothing.
 use mathlib.Core.Path.{◌≡◌, refl, sym, ap, subst, ◌∙◌}
-use mathlib.Core.Bool.{Bool, true, false, ◌&&◌, cond}
+use mathlib.Core.Bool.{Bool, true, false}
 use mathlib.Core.List.{List}
-use Prim.Native.Nat.{ℕ, zero, suc, ◌+◌, ◌-◌, ◌<◌, ◌≤◌}
+use Prim.Native.Nat.{ℕ, zero, suc, ◌+◌, ◌-◌, ◌<◌}
 use native.Mathlib.Omega.{arith}
 use native.Mathlib.Numerals.{add-one}
 use lib.Dec.{eqb}
 use lib.ListN.{length}
-use borrow.Author.Tests.{eq-eqb, ne_eqb, eqb-true, eqb-false}
+use borrow.Author.Tests.{eq-eqb, eqb-true, eqb-false}
 use Rattle.shape.proofs.Tests.{and_left, and_right}
 use Rattle.slip.specs.Meaning.{seats}
 use Rattle.layout.specs.Seat.{room_long, seat_of, with_seat}
 use Rattle.layout.proofs.Rooms.{with-seat-length, seat-got, seat-other}
 use Rattle.seat.specs.Fit.{seat_fits, seats_fit, room_fits}
 use Rattle.seat.proofs.Kept.{fit-long}
-
-pub wrong-length : (r : List ℕ) → (length r ≡ room_long → ⊥) → false ≡ room_fits r
-unfolding room_fits
-wrong-length r h = rw (ne_eqb (length r) room_long h)
 
 pub seats-begin : (r : List ℕ) → length r ≡ room_long → room_fits r ≡ seats_fit r 0 seats
 unfolding room_fits
@@ -32,12 +28,6 @@ module _ (r : List ℕ) (k : ℕ) (here : k < seats) where
 
   pub seat-goes : seat_fits (seat_of r k) ≡ true → seats_fit r k (seats - k) ≡ seats_fit r (k + 1) (seats - (k + 1))
   seat-goes e = rw (left, e, add-one k)
-
-  pub seat-unfit : seat_fits (seat_of r k) ≡ false → seats_fit r k (seats - k) ≡ false
-  seat-unfit e = rw (left, e)
-
-pub seats-end : (r : List ℕ) (k : ℕ) → seats ≤ k → seats_fit r k (seats - k) ≡ true
-seats-end r k h = let none : seats - k ≡ 0 = omega arith in rw none
 
 -- n seats from the j-th on: each of them fits, and where each fits all do
 seat-among : (r : List ℕ) (j n d k : ℕ) → k ≡ j + d → d < n → seats_fit r j n ≡ true → seat_fits (seat_of r k) ≡ true

@@ -2,47 +2,48 @@
 -- refusal in its table whose test holds, and the seat after it, which is as it came where the call is refused.
 -- Refusals 1 and 2 are tests of the whole room and of the directory, and stand in front of these. Each test of a refusal has its name and stands
 -- once; the tables here, those of the centre and that of demand 1 cite the names.
-use Rattle.std.specs.Prelude.{Bool, true, false, not, ◌&&◌, ◌||◌, cond, List, [], ◌∷◌, ℕ, suc, ◌+◌, ◌-◌, ◌*◌, leb, ltb, eqb}
-use Rattle.shape.specs.declared.value.Value.{Value}
-use Rattle.shape.specs.declared.value.Value.TheVariants.{Of, None}
+use Rattle.std.specs.Prelude.{Bool, true, false, not, ◌&&◌, ◌||◌, cond, List, [], ◌∷◌, ℕ, suc, ◌+◌, ◌-◌, ◌*◌, leb, ltb, eqb, Option, Some, None, Result, Ok, Err}
 use Rattle.slip.specs.Meaning.{openings, steps}
 use Rattle.directory.specs.declared.Participant.{Participant}
-use Rattle.directory.specs.declared.Found.{Found}
-use Rattle.directory.specs.declared.Found.TheVariants.{At, Missing}
+use Rattle.directory.specs.declared.Listed.{Listed}
 use Rattle.directory.specs.Directory.{is_owner, owner_found}
 use Rattle.layout.specs.declared.rows.Settings.{Settings}
 use Rattle.layout.specs.declared.rows.Account.{Account}
 use Rattle.layout.specs.declared.rows.Step.{Step}
 use Rattle.layout.specs.Seat.{places, head_of, account_of}
-use Rattle.journal.specs.Steps.{set_kind, sum_most, settings_fit, no_settings, no_identifier}
+use Rattle.journal.specs.Steps.{set_kind, sum_most, settings_fit, no_identifier}
 use Rattle.journal.specs.Working.{stepped, backed}
-use Rattle.seat.specs.declared.calls.Answer.{Answer}
-use Rattle.seat.specs.declared.calls.Answer.TheVariants.{Done, NoTicket, AlreadyOpen, NoOpeningLeft, BadNumber, JournalFull, NothingToTakeBack}
+use Rattle.seat.specs.declared.calls.Refusal.{Refusal}
+use Rattle.seat.specs.declared.calls.Refusal.TheVariants.{NoTicket, AlreadyOpen, NoOpeningLeft, BadNumber, JournalFull, NothingToTakeBack}
 use Rattle.seat.specs.Fit.{closed_seat, open_seat}
+
+-- how a call ends: done, or refused
+abbrev pub Answer : Type 0
+Answer = Result (Unit {0}) Refusal
 
 -- document 01's numbers
 unfoldable pub number_of : Answer → ℕ
-number_of Done = 0
-number_of NoTicket = 3
-number_of AlreadyOpen = 4
-number_of NoOpeningLeft = 5
-number_of BadNumber = 6
-number_of JournalFull = 9
-number_of NothingToTakeBack = 10
+number_of (Ok u) = 0
+number_of (Err NoTicket) = 3
+number_of (Err AlreadyOpen) = 4
+number_of (Err NoOpeningLeft) = 5
+number_of (Err BadNumber) = 6
+number_of (Err JournalFull) = 9
+number_of (Err NothingToTakeBack) = 10
 
 abbrev pub is_done : Answer → Bool
-is_done Done = true
-is_done NoTicket = false
-is_done AlreadyOpen = false
-is_done NoOpeningLeft = false
-is_done BadNumber = false
-is_done JournalFull = false
-is_done NothingToTakeBack = false
+is_done (Ok u) = true
+is_done (Err refusal) = false
 
 -- the first refusal whose test holds
-abbrev pub first : List (Bool × Answer) → Answer
-first [] = Done
-first (r ∷ rest) = cond r.0 r.1 (first rest)
+abbrev pub first : List (Bool × Refusal) → Answer
+first [] = Ok tt
+first (r ∷ rest) = cond r.0 (Err r.1) (first rest)
+
+-- what a call gives where it is done
+abbrev pub gives : {A : Type 0} → Answer → A → Result A Refusal
+gives (Ok u) given = Ok given
+gives (Err refusal) given = Err refusal
 
 -- the seat after a call: done, or as it came
 abbrev pub behind : Answer → List ℕ → List ℕ → List ℕ
@@ -104,28 +105,28 @@ unfoldable pub close_after : ℕ → List ℕ → List ℕ
 close_after opening s = behind (close_answer opening s) (closed_seat (head_of s).opening) s
 
 -- an account is named by its owner's place and by 1 or 2
-unfoldable pub account_named : Found → ℕ → Bool
+unfoldable pub account_named : Option Listed → ℕ → Bool
 account_named owner number = owner_found owner && (eqb number 1 || eqb number 2)
 
 -- 6, reading and setting: the owner or the account number is bad
-abbrev pub account_bad : Found → ℕ → Bool
+abbrev pub account_bad : Option Listed → ℕ → Bool
 account_bad owner number = not (account_named owner number)
 
-abbrev pub account_number : Found → ℕ → ℕ
-account_number (At place p) number = 2 * place + (number - 1)
-account_number Missing number = 0
+abbrev pub account_number : Option Listed → ℕ → ℕ
+account_number (Some l) number = 2 * l.place + (number - 1)
+account_number None number = 0
 
 -- the account that an owner and 1 or 2 name, or none
-unfoldable pub account_found : Found → ℕ → Value
-account_found owner number = cond (account_named owner number) (Of (account_number owner number)) None
+unfoldable pub account_found : Option Listed → ℕ → Option ℕ
+account_found owner number = cond (account_named owner number) (Some (account_number owner number)) None
 
 -- a place that a seat has
-abbrev pub place_fits : Found → Bool
-place_fits (At place p) = ltb place places
-place_fits Missing = true
+abbrev pub place_fits : Option Listed → Bool
+place_fits (Some l) = ltb l.place places
+place_fits None = true
 
 -- 6, setting: the account or a limit is bad
-abbrev pub setting_bad : Found → ℕ → Settings → Bool
+abbrev pub setting_bad : Option Listed → ℕ → Settings → Bool
 setting_bad owner number given = not (account_named owner number && settings_fit given)
 
 -- set
@@ -149,7 +150,7 @@ set_step account old given = record {
   answers = 0;
 }
 
-unfoldable pub set_answer : ℕ → Found → ℕ → Settings → List ℕ → Answer
+unfoldable pub set_answer : ℕ → Option Listed → ℕ → Settings → List ℕ → Answer
 set_answer opening owner number given s =
     first (
     (no_ticket opening s, NoTicket)
@@ -157,7 +158,7 @@ set_answer opening owner number given s =
     ∷ (journal_full s, JournalFull)
     ∷ [])
 
-unfoldable pub set_after : ℕ → Found → ℕ → Settings → List ℕ → List ℕ
+unfoldable pub set_after : ℕ → Option Listed → ℕ → Settings → List ℕ → List ℕ
 set_after opening owner number given s =
     behind (set_answer opening owner number given s)
     (stepped (set_step (account_number owner number) (account_of s (account_number owner number)).settings given) s) s
@@ -169,12 +170,9 @@ back_answer opening s = first ((no_ticket opening s, NoTicket) ∷ (nothing_to_t
 unfoldable pub back_after : ℕ → List ℕ → List ℕ
 back_after opening s = behind (back_answer opening s) (backed s) s
 
--- read an account; a refused read has zeros
-unfoldable pub read_answer : ℕ → Found → ℕ → List ℕ → Answer
+-- read an account
+unfoldable pub read_answer : ℕ → Option Listed → ℕ → List ℕ → Answer
 read_answer opening owner number s = first ((no_ticket opening s, NoTicket) ∷ (account_bad owner number, BadNumber) ∷ [])
 
-abbrev pub no_account : Account
-no_account = record { opening = 0; balance = 0; turnover = 0; settings = no_settings }
-
-unfoldable pub read_value : ℕ → Found → ℕ → List ℕ → Account
-read_value opening owner number s = cond (is_done (read_answer opening owner number s)) (account_of s (account_number owner number)) no_account
+unfoldable pub read_result : ℕ → Option Listed → ℕ → List ℕ → Result Account Refusal
+read_result opening owner number s = gives (read_answer opening owner number s) (account_of s (account_number owner number))

@@ -1,8 +1,7 @@
 -- When a seat and a room are fit, directory aside: document 01, "Room, seats, directory". Length and ranges are right, and worked forward from
 -- the opening sums over the journal, no balance ever falls below zero and the very numbers come out that are stored. A closed seat is all zeros
 -- but for its opening count.
-use Rattle.std.specs.Prelude.{Bool, true, false, ◌&&◌, cond, List, [], ◌∷◌, ◌++◌, ℕ, zero, suc, ◌*◌, ◌-◌, leb, eqb, length, replicate}
-use Rattle.std.proofs.Math.Option.{Option, none, some}
+use Rattle.std.specs.Prelude.{Bool, true, false, ◌&&◌, cond, List, [], ◌∷◌, ◌++◌, ℕ, zero, suc, ◌*◌, ◌-◌, leb, eqb, length, replicate, Option, Some, None}
 use Rattle.shape.specs.Bytes.{every}
 use Rattle.slip.specs.Meaning.{seats, openings, steps}
 use Rattle.layout.specs.declared.rows.Account.{Account}
@@ -48,8 +47,8 @@ sums_of s = sums_from s 0 accounts
 
 -- the numbers that come out are those that stand there
 abbrev pub comes_out : List ℕ → Option (List ℕ) → Bool
-comes_out s none = false
-comes_out s (some t) = same t s
+comes_out s None = false
+comes_out s (Some t) = same t s
 
 unfoldable pub open_fits : List ℕ → Bool
 open_fits s =

@@ -1,3 +1,4 @@
 pub mod Settings
 pub mod Fit
 pub mod Calls
+pub mod Words

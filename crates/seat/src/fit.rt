@@ -5,7 +5,7 @@ ghost use Rattle.slip.specs.Meaning.{steps};
 ghost use Rattle.layout.specs.Seat.{accounts, seat_long};
 ghost use Rattle.journal.specs.Steps.{sum_most};
 ghost use Rattle.journal.specs.Working.{steps_from, worked};
-ghost use Rattle.seat.specs.Fit.{same, open_account, open_seat, sums_of, comes_out, open_fits, closed_fits, seat_fits, room_fits};
+ghost use Rattle.seat.specs.Fit.{open_account, open_seat, sums_of, comes_out, open_fits, closed_fits, seat_fits, room_fits};
 
 use crate::settings::opening_settings;
 use journal::{SUM_MOST, append, is_possible};
@@ -13,34 +13,14 @@ use layout::rows::{Account, Head};
 use layout::{ACCOUNTS, ROOM_LONG, SEAT_LONG, account, head, put_account, put_head, seat_in, step};
 use slip::{OPENINGS, SEATS, STEPS};
 
-// Whether two lists of numbers are the same.
-fn is_same(s: &[u64], t: &[u64]) -> bool
-    ensures { result ≡ same s.now t.now }
-{
-    if s.len() != t.len() {
-        return false;
-    }
-    let mut i = 0;
-    while i < s.len() {
-        if s[i] != t[i] {
-            return false;
-        }
-        i += 1;
-    }
-    true
-}
-
-// The opening sums that stand in a seat.
+// The opening sums that stand in a seat. Tried with `out.iter_mut().enumerate()`: the proof did not close.
 fn sums(s: &[u64]) -> [u64; ACCOUNTS]
     requires { length s.now ≡ seat_long }
     ensures { result ≡ sums_of s.now }
 {
     let mut out = [0u64; ACCOUNTS];
-    let mut i = 0;
-    while i < ACCOUNTS {
-        let a = account(s, i);
-        out[i] = a.opening;
-        i += 1;
+    for i in 0..ACCOUNTS {
+        out[i] = account(s, i).opening;
     }
     out
 }
@@ -49,14 +29,7 @@ fn sums(s: &[u64]) -> [u64; ACCOUNTS]
 pub fn sums_fit(s: &[u64]) -> bool
     ensures { result ≡ every (λ (sum : ℕ). leb sum sum_most) s.now }
 {
-    let mut i = 0;
-    while i < s.len() {
-        if SUM_MOST < s[i] {
-            return false;
-        }
-        i += 1;
-    }
-    true
+    s.iter().all(|sum| *sum <= SUM_MOST)
 }
 
 // An account that was just opened.
@@ -84,10 +57,8 @@ pub fn open_with(s: &mut [u64], opening: u64, sums: &[u64])
             steps: 0,
         },
     );
-    let mut i = 0;
-    while i < sums.len() {
-        put_account(s, i, opened(sums[i]));
-        i += 1;
+    for (i, sum) in sums.iter().enumerate() {
+        put_account(s, i, opened(*sum));
     }
 }
 
@@ -98,79 +69,67 @@ fn works_out(s: &[u64], opening: u64, count: usize, given: &[u64]) -> bool
 {
     let mut t = [0u64; SEAT_LONG];
     open_with(&mut t, opening, given);
-    let mut k = 0;
-    while k < count {
+    for k in 0..count {
         let x = step(s, k);
         if !is_possible(&t, x) {
             return false;
         }
         append(&mut t, x);
-        k += 1;
     }
-    is_same(&t, s)
+    t.as_slice() == s
 }
 
-// Whether an open seat is fit.
+// Whether an open seat is fit. Tried with `matches!(h.opening, 1..=OPENINGS)`: the proof did not close.
+#[tactic(auto, unfolding(crate::specs::Fit::open_fits))]
 fn open_fits(s: &[u64]) -> bool
     requires { length s.now ≡ seat_long }
     ensures { result ≡ open_fits s.now }
 {
     let h = head(s);
-    if (h.opening < 1) | (OPENINGS < h.opening) | (STEPS < h.steps) {
+    if h.opening < 1 || OPENINGS < h.opening || STEPS < h.steps {
         return false;
     }
     let given = sums(s);
-    if !sums_fit(&given) {
-        return false;
-    }
-    works_out(s, h.opening, h.steps as usize, &given)
+    sums_fit(&given) && works_out(s, h.opening, h.steps as usize, &given)
 }
 
 // Whether a closed seat is fit: all zeros but for its opening count.
+#[tactic(auto, unfolding(crate::specs::Fit::closed_fits))]
 fn closed_fits(s: &[u64]) -> bool
     requires { length s.now ≡ seat_long }
     ensures { result ≡ closed_fits s.now }
 {
-    if OPENINGS < s[0] {
-        return false;
-    }
-    let mut i = 1;
-    while i < s.len() {
-        if s[i] != 0 {
-            return false;
-        }
-        i += 1;
-    }
-    true
+    s[0] <= OPENINGS && s[1..].iter().all(|number| *number == 0)
 }
 
 // Whether a seat is fit.
+#[tactic(auto, unfolding(crate::specs::Fit::seat_fits))]
 pub fn seat_fits(s: &[u64]) -> bool
     ensures { result ≡ seat_fits s.now }
 {
     if s.len() != SEAT_LONG {
         return false;
     }
-    let h = head(s);
-    if h.opened == 0 {
-        return closed_fits(s);
+    if head(s).opened == 0 {
+        closed_fits(s)
+    } else {
+        open_fits(s)
     }
-    open_fits(s)
 }
 
-// Whether a room is fit: its length is right and each of its seats is fit.
+// Whether a room is fit: its length is right and each of its seats is fit. The loop goes by number, since `seat_in` alone says where a seat stands,
+// and asks for one that a room has, as `all` over the numbers could not tell it.
+#[tactic(auto, unfolding(crate::specs::Fit::room_fits))]
 pub fn room_fits(r: &[u64]) -> bool
     ensures { result ≡ room_fits r.now }
 {
     if r.len() != ROOM_LONG {
         return false;
     }
-    let mut k = 0;
-    while k < SEATS as usize {
+    for k in 0..SEATS as usize {
         if !seat_fits(seat_in(r, k)) {
             return false;
         }
-        k += 1;
     }
     true
 }

@@ -8,8 +8,8 @@ mod fit;
 mod settings;
 
 pub use calls::{
-    Answer, Reading, account_found, clear, close_seat, no_ticket, open_seat, read_account,
-    set_account, take_back,
+    Refusal, account_found, clear, close_seat, no_ticket, open_seat, read_account, set_account,
+    take_back,
 };
 pub use fit::{room_fits, seat_fits};
-pub use settings::{Limit, Wish, settings_of};
+pub use settings::{Wish, settings_of};

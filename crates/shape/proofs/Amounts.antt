@@ -23,3 +23,5 @@ amount-length s e =
     (every is_digit (whole s)) (eqb (length s) amount_bytes_least || not (eqb (get_or s 0 0) (code "0")))
     (eqb (point s) (code ".")) (every is_digit (hundredths s)) (ltb 0 (kopecks s)) e in
     (leb-true amount_bytes_least (length s) t.0, leb-true (length s) amount_bytes_most t.1)
+
+pub ruleset lengths = (amount-length)

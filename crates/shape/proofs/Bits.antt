@@ -4,7 +4,7 @@ use mathlib.Core.Path.{◌≡◌, refl, sym, ap, ◌∙◌}
 use mathlib.Core.List.{List, [], ◌∷◌, map}
 use Prim.Native.Nat.{ℕ, ◌+◌, ◌*◌, ◌/◌, ◌%◌, ◌^◌, ◌<◌}
 use native.Mathlib.Omega.{arith}
-use native.Mathlib.Nat.{add_assoc, mul_assoc, zero-mul, zero-add, add_comm, add-mul, div-one, div-eq_of_lt, div-add-mod'}
+use native.Mathlib.Nat.{add_assoc, mul_assoc, zero-mul, zero-add, add_comm, add-mul, div-one, div-eq_of_lt}
 use lib.Dec.{lit<}
 use lib.Pow.{pow-add, high, low, shr-shr, split}
 use lib.Arith.{digits_lt}

@@ -1,6 +1,5 @@
 -- Facts of the calendar that arithmetic wants.
 -- Assumes nothing.
-use mathlib.Core.Path.{◌≡◌, refl}
 use mathlib.Core.Bool.{Bool, true, false, cond, ◌||◌}
 use Prim.Native.Nat.{ℕ, ◌≤◌}
 use lib.Dec.{eqb, lit≤}
@@ -15,3 +14,5 @@ days_in-most y m = go (eqb m 2) (is_leap y) (eqb m 4 || eqb m 6 || eqb m 9 || eq
     go true false c = lit≤ tt
     go false b true = lit≤ tt
     go false b false = lit≤ tt
+
+pub ruleset days = (days_in-most)

@@ -1,18 +1,19 @@
 -- The hexadecimal digits of a UETR: each is worth less than 16 and is written as it was read, and four of them are worth less than 2 ^ 16.
 -- Assumes nothing.
-use mathlib.Core.Path.{◌≡◌, refl, sym, ap, subst, ◌∙◌}
+use mathlib.Core.Path.{◌≡◌, refl, sym, subst, ◌∙◌}
 use mathlib.Core.Bool.{Bool, true, false, ◌&&◌, ◌||◌, cond, false≢true}
 use mathlib.Core.List.{List, [], ◌∷◌}
-use Prim.Native.Nat.{ℕ, zero, suc, ◌+◌, ◌-◌, ◌*◌, ◌^◌, ◌<◌, ◌≤◌}
+use Prim.Native.Nat.{ℕ, zero, suc, ◌+◌, ◌-◌, ◌^◌, ◌<◌, ◌≤◌}
 use native.Mathlib.Omega.{arith}
 use Prim.Native.Char.{code}
 use lib.Dec.{leb, ltb, eqb}
 use lib.ListN.{length, get_or}
-use borrow.Author.Tests.{leb-true, eqb-true, lt-ltb, le-ltb}
+use borrow.Author.Tests.{eqb-true, lt-ltb, le-ltb}
 use Rattle.shape.specs.Bytes.{is_digit, is_hex, is_variant}
 use Rattle.shape.specs.Patterns.{within, fits, uetr_pattern, hex, variant}
 use Rattle.shape.specs.Numbers.{digit_value, letter_base, hex_value}
 use Rattle.shape.specs.Stored.{hex_bits, group_bits, four_from, is_uetr, hex_digit}
+use Rattle.shape.proofs.Loops.{fits-length}
 use Rattle.shape.proofs.Tests.{and_left, and_right, or_cases, or_left, or_right, in-range, range-in}
 
 -- the classes of a UETR's digits: any, the variant, and the version, which is 4
@@ -97,14 +98,6 @@ unfolding four_from
 four-small s i h₀ h₁ h₂ h₃ =
     omega (arith, hex-small (get_or s (i + 0) 0) h₀, hex-small (get_or s (i + 1) 0) h₁, hex-small (get_or s (i + 2) 0) h₂, hex-small (get_or s (i + 3) 0) h₃)
 
--- each of the eight groups of a UETR is below 2 ^ 16
-pub group-small : (s : List ℕ) (i : ℕ) → is_uetr s ≡ true
-    → is_digit_class (get_or uetr_pattern (i + 0) 0) ≡ true → is_digit_class (get_or uetr_pattern (i + 1) 0) ≡ true
-    → is_digit_class (get_or uetr_pattern (i + 2) 0) ≡ true → is_digit_class (get_or uetr_pattern (i + 3) 0) ≡ true
-    → four_from s i < 2 ^ group_bits
-group-small s i e d₀ d₁ d₂ d₃ =
-    let h = four-hex s i e d₀ d₁ d₂ d₃ in four-small s i h.0 h.1 h.2 h.3
-
 -- a digit is written as it was read
 pub hex-written : (b : ℕ) → is_hex b ≡ true → hex_digit (hex_value b) ≡ b
 unfolding is_hex hex_value hex_digit
@@ -115,3 +108,17 @@ hex-written b e = go (is_digit b) refl
     go false d =
         let r = in-range 97 102 b (or_cases (is_digit b) (leb 97 b && leb b 102) e (λ k. absurd (false≢true (sym d ∙ k))) (λ k. k)) in
         rw (le-ltb (b - letter_base) 10 (omega arith)) (omega arith)
+
+-- a UETR has 36 bytes, and each of its eight groups is below 2 ^ 16
+pub group-below : (n i : ℕ) (s : List ℕ) → n ≡ four_from s i → is_uetr s ≡ true
+    → is_digit_class (get_or uetr_pattern (i + 0) 0) ≡ true → is_digit_class (get_or uetr_pattern (i + 1) 0) ≡ true
+    → is_digit_class (get_or uetr_pattern (i + 2) 0) ≡ true → is_digit_class (get_or uetr_pattern (i + 3) 0) ≡ true
+    → n < 2 ^ group_bits
+group-below n i s e u d₀ d₁ d₂ d₃ =
+    let h = four-hex s i u d₀ d₁ d₂ d₃ in rw e (four-small s i h.0 h.1 h.2 h.3)
+
+pub uetr-length : (s : List ℕ) → is_uetr s ≡ true → length s ≡ 36
+unfolding is_uetr uetr_pattern
+uetr-length s e = fits-length uetr_pattern s e
+
+pub ruleset uetr = (group-below, uetr-length)

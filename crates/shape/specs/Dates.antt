@@ -1,9 +1,7 @@
 -- Dates as numbers yyyymmdd, times as numbers yyyymmddhhmmss: the calendar of 2000 to 2099.
-use Rattle.std.specs.Prelude.{Bool, not, ◌&&◌, ◌||◌, cond, List, [], ◌∷◌, map, ℕ, ◌+◌, ◌-◌, ◌*◌, ◌/◌, ◌%◌, leb, ltb, eqb, get_or}
+use Rattle.std.specs.Prelude.{Bool, not, ◌&&◌, ◌||◌, cond, List, [], ◌∷◌, map, ℕ, ◌+◌, ◌-◌, ◌*◌, ◌/◌, ◌%◌, leb, ltb, eqb, get_or, Option, Some, None}
 use Rattle.shape.specs.Patterns.{fits, time_pattern}
 use Rattle.shape.specs.Numbers.{decimal}
-use Rattle.shape.specs.declared.value.Value.{Value}
-use Rattle.shape.specs.declared.value.Value.TheVariants.{Of, None}
 
 -- the calendar's first and last year
 abbrev pub year_first : ℕ
@@ -42,12 +40,12 @@ is_date n =
     && leb 1 (day n) && leb (day n) (days_in (year n) (month n))
 
 -- the day before a date: none before 2000-01-01, and none before what is no date
-unfoldable pub day_before : ℕ → Value
+unfoldable pub day_before : ℕ → Option ℕ
 day_before n =
     cond (not (is_date n)) None
-    (cond (ltb 1 (day n)) (Of (n - 1))
-    (cond (ltb 1 (month n)) (Of (dated (year n) (month n - 1) (days_in (year n) (month n - 1))))
-    (cond (ltb year_first (year n)) (Of (dated (year n - 1) 12 31))
+    (cond (ltb 1 (day n)) (Some (n - 1))
+    (cond (ltb 1 (month n)) (Some (dated (year n) (month n - 1) (days_in (year n) (month n - 1))))
+    (cond (ltb year_first (year n)) (Some (dated (year n - 1) 12 31))
     None)))
 
 -- the date of a time
@@ -66,5 +64,5 @@ unfoldable pub time_number : List ℕ → ℕ
 time_number s = decimal (map (λ (i : ℕ). get_or s i 0) time_places)
 
 -- the time that a text is
-unfoldable pub time_of : List ℕ → Value
-time_of s = cond (fits time_pattern s && is_time (time_number s)) (Of (time_number s)) None
+unfoldable pub time_of : List ℕ → Option ℕ
+time_of s = cond (fits time_pattern s && is_time (time_number s)) (Some (time_number s)) None

@@ -1,21 +1,19 @@
 -- What a field's text is: a code, an amount in kopecks, a currency, an account, a message identifier, and the tests of the shapes that
 -- are only looked at. Document 01, "Fields", the shapes. Everything is said of any bytes: a text that has not the shape gives nothing.
-use Rattle.std.specs.Prelude.{Bool, not, ◌&&◌, ◌||◌, cond, List, [], ◌∷◌, ℕ, ◌+◌, ◌-◌, ◌*◌, leb, ltb, eqb, length, get_or, take, drop}
+use Rattle.std.specs.Prelude.{Bool, not, ◌&&◌, ◌||◌, cond, List, [], ◌∷◌, ℕ, ◌+◌, ◌-◌, ◌*◌, leb, ltb, eqb, length, get_or, take, drop, Option, Some, None}
 use Prim.Native.Char.{code}
 use Rattle.shape.specs.Bytes.{byte_bits, every, is_digit, is_text}
 use Rattle.shape.specs.Patterns.{fits, code_pattern, currency_pattern, iban_pattern, account_pattern, message_pattern, sep_pattern, asp_pattern, pacs008_pattern}
 use Rattle.shape.specs.Bits.{joined}
 use Rattle.shape.specs.Numbers.{digit_value, decimal}
 use Rattle.shape.specs.Dates.{is_date}
-use Rattle.shape.specs.declared.value.Value.{Value}
-use Rattle.shape.specs.declared.value.Value.TheVariants.{Of, None}
 use Rattle.shape.specs.declared.field.Account.{Account}
 use Rattle.shape.specs.declared.field.System.{System}
 use Rattle.shape.specs.declared.field.System.TheVariants.{Sep, Asp, Neither}
 
 -- M: six digits
-unfoldable pub code_of : List ℕ → Value
-code_of s = cond (fits code_pattern s) (Of (decimal s)) None
+unfoldable pub code_of : List ℕ → Option ℕ
+code_of s = cond (fits code_pattern s) (Some (decimal s)) None
 
 -- an amount, its digits before the point, the byte that has to be the point, and the two digits behind it
 abbrev pub whole : List ℕ → List ℕ
@@ -45,16 +43,16 @@ is_amount s =
     && eqb (point s) (code ".") && every is_digit (hundredths s)
     && ltb 0 (kopecks s)
 
-unfoldable pub amount_of : List ℕ → Value
-amount_of s = cond (is_amount s) (Of (kopecks s)) None
+unfoldable pub amount_of : List ℕ → Option ℕ
+amount_of s = cond (is_amount s) (Some (kopecks s)) None
 
 -- three bytes as one number
 unfoldable pub three_bytes : List ℕ → ℕ
 three_bytes s = joined 0 ((byte_bits, get_or s 0 0) ∷ (byte_bits, get_or s 1 0) ∷ (byte_bits, get_or s 2 0) ∷ [])
 
 -- a currency: three capitals
-unfoldable pub currency_of : List ℕ → Value
-currency_of s = cond (fits currency_pattern s) (Of (three_bytes s)) None
+unfoldable pub currency_of : List ℕ → Option ℕ
+currency_of s = cond (fits currency_pattern s) (Some (three_bytes s)) None
 
 -- an account: one digit, six-digit code, three capitals. No account has a currency of 0
 unfoldable pub account_of : List ℕ → Account
@@ -64,9 +62,9 @@ account_of s =
     (record { digit = 0; code = 0; currency = 0 })
 
 -- the code of a good message identifier: six-digit code, a real yyyymmdd, eight digits or capitals
-unfoldable pub message_code_of : List ℕ → Value
+unfoldable pub message_code_of : List ℕ → Option ℕ
 message_code_of s =
-    cond (fits message_pattern s && is_date (decimal (take 8 (drop 6 s)))) (Of (decimal (take 6 s))) None
+    cond (fits message_pattern s && is_date (decimal (take 8 (drop 6 s)))) (Some (decimal (take 6 s))) None
 
 unfoldable pub is_iban : List ℕ → Bool
 is_iban s = fits iban_pattern s

@@ -5,30 +5,35 @@ ghost use Rattle.shape.specs.Bytes.{is_digit, is_capital, is_small, is_letter, i
 // How many values a byte has.
 pub const BYTE_VALUES: u64 = 1 << 8;
 
+#[tactic(auto, unfolding(crate::specs::Bytes::is_digit))]
 pub fn is_digit(b: u8) -> bool
     ensures { result ≡ is_digit b }
 {
-    (b'0' <= b) & (b <= b'9')
+    matches!(b, b'0'..=b'9')
 }
 
+#[tactic(auto, unfolding(crate::specs::Bytes::is_capital))]
 pub fn is_capital(b: u8) -> bool
     ensures { result ≡ is_capital b }
 {
-    (b'A' <= b) & (b <= b'Z')
+    matches!(b, b'A'..=b'Z')
 }
 
+#[tactic(auto, unfolding(crate::specs::Bytes::is_small))]
 pub fn is_small(b: u8) -> bool
     ensures { result ≡ is_small b }
 {
-    (b'a' <= b) & (b <= b'z')
+    matches!(b, b'a'..=b'z')
 }
 
+#[tactic(auto, unfolding(crate::specs::Bytes::is_letter))]
 pub fn is_letter(b: u8) -> bool
     ensures { result ≡ is_letter b }
 {
     is_capital(b) | is_small(b)
 }
 
+#[tactic(auto, unfolding(crate::specs::Bytes::is_digit_or_capital))]
 pub fn is_digit_or_capital(b: u8) -> bool
     ensures { result ≡ is_digit_or_capital b }
 {
@@ -36,32 +41,32 @@ pub fn is_digit_or_capital(b: u8) -> bool
 }
 
 // A hexadecimal digit, in small letters.
+#[tactic(auto, unfolding(crate::specs::Bytes::is_hex))]
 pub fn is_hex(b: u8) -> bool
     ensures { result ≡ is_hex b }
 {
-    is_digit(b) | ((b'a' <= b) & (b <= b'f'))
+    is_digit(b) | matches!(b, b'a'..=b'f')
 }
 
 // The digit of a UUID that says its variant.
+#[tactic(auto, unfolding(crate::specs::Bytes::is_variant))]
 pub fn is_variant(b: u8) -> bool
     ensures { result ≡ is_variant b }
 {
-    ((b'8' <= b) & (b <= b'9')) | ((b'a' <= b) & (b <= b'b'))
+    matches!(b, b'8'..=b'9' | b'a'..=b'b')
 }
 
 // A byte that a text may hold.
+#[tactic(auto, unfolding(crate::specs::Bytes::is_text))]
 pub fn is_text(b: u8) -> bool
     ensures { result ≡ is_text b }
 {
-    (32 <= b) & (b <= 126) & (b != b'<') & (b != b'>') & (b != b'&')
+    matches!(b, 32..=126) & !matches!(b, b'<' | b'>' | b'&')
 }
 
 // The byte at a place, or 0 past the end.
 pub fn peek(s: &[u8], i: usize) -> u8
     ensures { result ≡ get_or s.now i 0 }
 {
-    if i < s.len() {
-        return s[i];
-    }
-    0
+    s.get(i).copied().unwrap_or(0)
 }

@@ -9,4 +9,3 @@ pub mod field;
 mod number;
 pub mod pattern;
 pub mod stored;
-pub mod value;

@@ -8,38 +8,32 @@ use crate::byte::is_digit;
 pub fn digit_value(b: u8) -> u8
     ensures { result ≡ digit_value b }
 {
-    if b < b'0' {
-        return 0;
-    }
-    b - b'0'
+    b.saturating_sub(b'0')
 }
 
 // What a hexadecimal letter is above the number that it is worth.
 const LETTER_BASE: u8 = b'a' - 10;
 
+#[tactic(auto, unfolding(crate::specs::Numbers::hex_value))]
 pub fn hex_value(b: u8) -> u8
     ensures { result ≡ hex_value b }
 {
     if is_digit(b) {
         return digit_value(b);
     }
-    if b < LETTER_BASE {
-        return 0;
-    }
-    b - LETTER_BASE
+    b.saturating_sub(LETTER_BASE)
 }
 
 // The number that digits write, of at most fourteen: that leaves room for a factor of a hundred.
+#[tactic(auto, unfolding(crate::specs::Numbers::decimal))]
 pub fn decimal(s: &[u8]) -> u64
     requires { length s.now ≤ digits_most }
     ensures value { result ≡ decimal s.now }
     ensures upper_bound { result < 10 ^ (digits_most + 2) }
 {
     let mut n: u64 = 0;
-    let mut i = 0;
-    while i < s.len() {
-        n = n * 10 + digit_value(s[i]) as u64;
-        i += 1;
+    for b in s {
+        n = n * 10 + digit_value(*b) as u64;
     }
     n
 }

@@ -18,33 +18,34 @@ pub const VARIANT: u8 = b'y';
 
 pub const TEXT: u8 = b'?';
 
+#[tactic(auto, unfolding(crate::specs::Patterns::within))]
 pub fn is_within(class: u8, b: u8) -> bool
     ensures { result ≡ within class b }
 {
     match class {
-        b'#' => is_digit(b),
-        b'^' => is_capital(b),
-        b'*' => is_digit_or_capital(b),
-        b'x' => is_hex(b),
-        b'y' => is_variant(b),
-        b'?' => is_text(b),
+        DIGIT => is_digit(b),
+        CAPITAL => is_capital(b),
+        DIGIT_OR_CAPITAL => is_digit_or_capital(b),
+        HEX => is_hex(b),
+        VARIANT => is_variant(b),
+        TEXT => is_text(b),
         _ => b == class,
     }
 }
 
 // Whether the text has the pattern's length and each byte is of its class.
+#[tactic(auto, using(crate::proofs::Loops::unlike))]
 pub fn matches(pattern: &[u8], s: &[u8]) -> bool
     ensures { result ≡ fits pattern.now s.now }
 {
     if pattern.len() != s.len() {
         return false;
     }
-    let mut i = 0;
-    while i < s.len() {
-        if !is_within(pattern[i], s[i]) {
+    // A loop, since the proof of `all` over the pairs did not close.
+    for (class, b) in pattern.iter().zip(s) {
+        if !is_within(*class, *b) {
             return false;
         }
-        i += 1;
     }
     true
 }
@@ -53,12 +54,5 @@ pub fn matches(pattern: &[u8], s: &[u8]) -> bool
 pub fn all_within(class: u8, s: &[u8]) -> bool
     ensures { result ≡ every (within class) s.now }
 {
-    let mut i = 0;
-    while i < s.len() {
-        if !is_within(class, s[i]) {
-            return false;
-        }
-        i += 1;
-    }
-    true
+    s.iter().all(|b| is_within(class, *b))
 }

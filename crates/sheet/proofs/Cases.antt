@@ -10,7 +10,6 @@ use Rattle.sheet.specs.Grammar.{is_name_byte}
 use Rattle.sheet.specs.Machine.{step}
 use Rattle.sheet.specs.Answer.{Reading, accepted, refused, run, reading_of}
 use Rattle.sheet.specs.Reader.{next_in, shown_at}
-use Rattle.sheet.specs.declared.reader.Ahead.{Ahead}
 use Rattle.sheet.specs.declared.reader.Ahead.TheVariants.{Element, Text, Neither}
 
 -- an empty element, a closing tag of another name, nothing at all

@@ -1,15 +1,15 @@
 -- Past the end of a sheet stands 0, which is no byte of a name, of a text or of a tag.
 -- Assumes nothing.
-use mathlib.Core.Path.{◌≡◌, refl, sym, ap, ◌∙◌}
-use mathlib.Core.Bool.{Bool, true, false, ◌&&◌, false≢true}
+use mathlib.Core.Path.{◌≡◌, refl, sym, ◌∙◌}
+use mathlib.Core.Bool.{Bool, true, false, false≢true}
 use mathlib.Core.List.{List}
-use Prim.Native.Nat.{ℕ, suc, ◌-◌, ◌≤◌, ◌<◌}
+use Prim.Native.Nat.{ℕ, suc, ◌≤◌, ◌<◌}
 use native.Mathlib.Omega.{arith}
 use lib.Dec.{ltb}
 use lib.ListN.{length, get_or, get_or-eq_default}
 use borrow.Author.Tests.{ltb-true, ltb-false}
 use Rattle.shape.specs.Bytes.{is_digit, is_capital, is_small, is_letter, is_text}
-use Rattle.sheet.specs.Grammar.{is_name_byte, name_most, text_most}
+use Rattle.sheet.specs.Grammar.{is_name_byte}
 use Rattle.sheet.specs.Parts.{NameRead, TextRead}
 use Rattle.sheet.proofs.Names.{NameTo, TextTo, name-ends, text-ends}
 

@@ -9,6 +9,7 @@ pub mod Opened
 pub mod Outer
 pub mod Parted
 pub mod Reading
+pub mod Row
 pub mod Runs
 pub mod Settled
 pub mod Tags

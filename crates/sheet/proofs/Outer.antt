@@ -1,20 +1,19 @@
 -- The answer to a whole sheet: its length, its first `<`, the outer element, and nothing behind it.
 -- Assumes nothing.
-use mathlib.Core.Path.{◌≡◌, refl, sym, ap, subst, ◌∙◌}
-use mathlib.Core.Bool.{true, false}
+use mathlib.Core.Path.{◌≡◌, refl, ◌∙◌}
 use mathlib.Core.List.{List, []}
-use mathlib.Core.Option.{none, some}
 use Prim.Native.Nat.{ℕ, ◌≤◌, ◌<◌}
-use native.Mathlib.Omega.{arith}
 use lib.ListN.{length, get_or, drop_of_length-le}
 use borrow.Author.Tests.{le-leb, lt-leb, eq-eqb, ne_eqb}
 use lib.Seq.{drop-cons}
 use Rattle.sheet.specs.Grammar.{depth_most, sheet_most}
 use Rattle.sheet.specs.Machine.{State, outer, begun, whole, goes, step}
-use Rattle.sheet.specs.Answer.{Reading, accepted, refused, run, empty_list, start, reading_of}
+use Rattle.sheet.specs.Answer.{accepted, refused, run, empty_list, start, reading_of}
 use Rattle.sheet.specs.declared.element.Came.{Came}
+use Rattle.sheet.specs.declared.parts.Refused.{Refused}
+use Rattle.std.specs.Prelude.{Ok, Err, Some, None}
 use Rattle.sheet.specs.Parts.{run_at}
-use Rattle.sheet.specs.Element.{state_of, ElementComes, ElementRead}
+use Rattle.sheet.specs.Element.{state_of, ElementRead}
 use Rattle.sheet.proofs.Runs.{run-go, run-stop, run_none}
 use Rattle.sheet.proofs.Ends.{inside as in-sheet}
 
@@ -22,15 +21,15 @@ pub too_long : (s : List ℕ) → sheet_most < length s → reading_of s ≡ ref
 unfolding reading_of
 too_long s h = rw (lt-leb (length s) sheet_most h)
 
-outer-refused : (i b : ℕ) → (b ≡ 60 → ⊥) → step start outer i b ≡ none
+outer-refused : (i b : ℕ) → (b ≡ 60 → ⊥) → step start outer i b ≡ None
 unfolding step
 outer-refused i b e = rw (ne_eqb b 60 e)
 
-outer-taken : (i b : ℕ) → b ≡ 60 → step start outer i b ≡ some (goes start begun)
+outer-taken : (i b : ℕ) → b ≡ 60 → step start outer i b ≡ Some (goes start begun)
 unfolding step
 outer-taken i b e = rw (eq-eqb b 60 e)
 
-whole-refused : (st : State) (i b : ℕ) → step st whole i b ≡ none
+whole-refused : (st : State) (i b : ℕ) → step st whole i b ≡ None
 unfolding step
 whole-refused st i b = refl
 
@@ -42,22 +41,23 @@ module _ (s : List ℕ) (short : length s ≤ sheet_most) where
   pub unbegun : (get_or s 0 0 ≡ 60 → ⊥) → reading_of s ≡ refused 0
   unbegun e = read_short ∙ run-stop s start 0 refl (outer-refused 0 (get_or s 0 0) e)
 
-  module _ (first : get_or s 0 0 ≡ 60) (came : Came) (starts depths : List ℕ)
-      (outermost : ElementRead s 1 depth_most 0 empty_list empty_list came starts depths) where
+  module _ (first : get_or s 0 0 ≡ 60) where
     begins-so : reading_of s ≡ run_at s (state_of begun [] 0 empty_list empty_list) 1
     begins-so = read_short ∙ run-go s start 0 (goes start begun) (in-sheet s 0 59 first) (outer-taken 0 (get_or s 0 0) first)
 
-    pub outer-stopped : came.whole ≡ false → reading_of s ≡ refused came.place
-    outer-stopped e = begins-so ∙ subst (ElementComes s 1 [] 0 empty_list empty_list came starts depths) e (outermost.comes [] refl)
+    pub outer-stopped : (e : Refused) (starts depths : List ℕ) → ElementRead s 1 depth_most 0 empty_list empty_list (Err e) starts depths
+        → reading_of s ≡ refused e.place
+    outer-stopped e starts depths outermost = begins-so ∙ outermost.comes [] refl
 
-    behind : came.whole ≡ true → reading_of s ≡ run_at s (state_of whole [] came.count starts depths) came.place
-    behind e = begins-so ∙ subst (ElementComes s 1 [] 0 empty_list empty_list came starts depths) e (outermost.comes [] refl)
+    module _ (came : Came) (starts depths : List ℕ) (outermost : ElementRead s 1 depth_most 0 empty_list empty_list (Ok came) starts depths) where
+      behind : reading_of s ≡ run_at s (state_of whole [] came.count starts depths) came.place
+      behind = begins-so ∙ outermost.comes [] refl
 
-    pub bytes-behind : came.whole ≡ true → came.place < length s → reading_of s ≡ refused came.place
-    bytes-behind e h =
-        behind e
-        ∙ rw (drop-cons s came.place 0 h) (run_none (state_of whole [] came.count starts depths) came.place (get_or s came.place 0) _ (whole-refused (state_of whole [] came.count starts depths) came.place (get_or s came.place 0)))
+      pub bytes-behind : came.place < length s → reading_of s ≡ refused came.place
+      bytes-behind h =
+          behind
+          ∙ rw (drop-cons s came.place 0 h) (run_none (state_of whole [] came.count starts depths) came.place (get_or s came.place 0) _ (whole-refused (state_of whole [] came.count starts depths) came.place (get_or s came.place 0)))
 
-    pub all_read : came.whole ≡ true → length s ≤ came.place → reading_of s ≡ accepted came.count starts depths
-    unfolding run
-    all_read e h = behind e ∙ rw (drop_of_length-le s h)
+      pub all_read : length s ≤ came.place → reading_of s ≡ accepted came.count starts depths
+      unfolding run
+      all_read h = behind ∙ rw (drop_of_length-le s h)

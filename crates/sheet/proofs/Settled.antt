@@ -3,7 +3,9 @@
 use mathlib.Core.Path.{◌≡◌, sym, ap, ◌∙◌}
 use denote.Ref.{Bor}
 use Rattle.shape.proofs.Single.{Settled, SettledShown, by-equation}
+use Rattle.std.specs.Prelude.{Result}
 use Rattle.sheet.specs.declared.Sheet.{Sheet}
+use Rattle.sheet.specs.declared.parts.Refused.{Refused}
 use Rattle.sheet.specs.declared.reader.Reader.{Reader}
 use Rattle.sheet.specs.Sheet.{Answers, sheet_of}
 use mathlib.Core.List.{List}
@@ -23,16 +25,16 @@ use Rattle.sheet.proofs.reader.part.Kinds as part-kinds
 use Rattle.sheet.proofs.reader.part.Reads as part-reads
 use Rattle.sheet.proofs.reader.shown_at.Kinds as shown-at-kinds
 use Rattle.sheet.proofs.reader.shown_at.Reads as shown-at-reads
-use Rattle.sheet.proofs.reader.begin.Kinds as begin-kinds
-use Rattle.sheet.proofs.reader.begin.Reads as begin-reads
-use Rattle.sheet.proofs.reader.moved.Kinds as moved-kinds
-use Rattle.sheet.proofs.reader.moved.Reads as moved-reads
-use Rattle.sheet.proofs.reader.place.Kinds as place-kinds
-use Rattle.sheet.proofs.reader.place.Reads as place-reads
-use Rattle.sheet.proofs.reader.next.Kinds as next-kinds
-use Rattle.sheet.proofs.reader.next.Reads as next-reads
-use Rattle.sheet.proofs.reader.shown.Kinds as shown-kinds
-use Rattle.sheet.proofs.reader.shown.Reads as shown-reads
+use Rattle.sheet.proofs.reader.Reader.begin.Kinds as begin-kinds
+use Rattle.sheet.proofs.reader.Reader.begin.Reads as begin-reads
+use Rattle.sheet.proofs.reader.Reader.moved.Kinds as moved-kinds
+use Rattle.sheet.proofs.reader.Reader.moved.Reads as moved-reads
+use Rattle.sheet.proofs.reader.Reader.place.Kinds as place-kinds
+use Rattle.sheet.proofs.reader.Reader.place.Reads as place-reads
+use Rattle.sheet.proofs.reader.Reader.next.Kinds as next-kinds
+use Rattle.sheet.proofs.reader.Reader.next.Reads as next-reads
+use Rattle.sheet.proofs.reader.Reader.shown.Kinds as shown-kinds
+use Rattle.sheet.proofs.reader.Reader.shown.Reads as shown-reads
 
 pub is-name-byte : Settled _ is-name-byte-kinds.ps is-name-byte-kinds.r is-name-byte-reads.Post
 is-name-byte κs a x y e f = by-equation
@@ -41,7 +43,7 @@ pub read : Settled _ read-kinds.ps read-kinds.r read-reads.Post
 read κs a x y e f p q = by-equation p.1 q.1
 
 -- the clause that cites the grammar settles the answer by itself
-pub grammar-settles : (s : List ℕ) (x y : Sheet) → Answers s x → Answers s y → x ≡ y
+pub grammar-settles : (s : List ℕ) (x y : Result Sheet Refused) → Answers s x → Answers s y → x ≡ y
 grammar-settles s x y p q = p.image ∙ ap sheet_of (right-only s p.reading q.reading p.right q.right) ∙ sym q.image
 
 pub name-bytes-end : Settled _ name-bytes-end-kinds.ps name-bytes-end-kinds.r name-bytes-end-reads.Post

@@ -1,24 +1,24 @@
 -- What follows in a fixed order, byte after byte: a Ccy, and a closing tag.
 -- Assumes nothing.
-use mathlib.Core.Path.{◌≡◌, refl, sym, ap, subst, ◌∙◌}
-use mathlib.Core.Bool.{Bool, true, false}
+use mathlib.Core.Path.{◌≡◌, refl, sym, subst, ◌∙◌}
+use mathlib.Core.Bool.{Bool, true, false, false≢true}
 use mathlib.Core.List.{List, [], ◌∷◌, ◌++◌}
-use mathlib.Core.Option.{Option, none, some}
-use Prim.Native.Nat.{ℕ, suc, ◌+◌, ◌-◌, ◌≤◌, ◌<◌}
+use Prim.Native.Nat.{ℕ, zero, suc, ◌+◌, ◌-◌, ◌≤◌, ◌<◌}
 use native.Mathlib.Omega.{arith}
 use native.Mathlib.Numerals.{add-one}
 use native.Mathlib.Nat.{add-zero, add-suc}
-use lib.Dec.{eqb}
-use lib.ListN.{length, get_or, take, drop, length-append, length-take, length-drop, get_or-append}
-use lib.Seq.{drop-cons, drop_at, get_or-take, get_or-drop}
-use borrow.Author.Tests.{eq-eqb, ne_eqb}
+use lib.Dec.{ltb}
+use lib.ListN.{length, get_or, drop, length-append, get_or-append, get_or-eq_default}
+use lib.Seq.{drop-cons, drop_at}
+use borrow.Author.Tests.{eq-eqb, ne_eqb, ltb-true, ltb-false}
 use Rattle.shape.specs.Text.{bytes}
+use Rattle.shape.specs.Bytes.{is_capital}
 use Rattle.sheet.specs.Machine.{State, Mode, attribute, tagged, ending, goes, closes, is_next, step}
 use Rattle.sheet.specs.Answer.{refused}
-use Rattle.sheet.specs.declared.parts.Went.TheVariants.{To, Stopped}
+use Rattle.std.specs.Prelude.{Ok, Some, None}
 use Rattle.sheet.specs.Parts.{run_at, part_of, AttributeRead, ClosingRead}
 use Rattle.sheet.proofs.Ends.{inside as in-sheet}
-use Rattle.sheet.proofs.Runs.{is_whole, run-go, run-stop, run_end, part_length}
+use Rattle.sheet.proofs.Runs.{refusal, run-go, run-stop, run_end, part-at, part_length}
 
 -- the state with so much of the Ccy, or of a closing tag, still to follow
 abbrev pub with_ccy : State → List ℕ → State
@@ -29,22 +29,22 @@ abbrev pub with_end : State → List ℕ → State
 with_end st [] = closes st
 with_end st (c ∷ r) = goes st (ending (c ∷ r))
 
-ccy-taken : (st : State) (m : Mode) (c : ℕ) (p : List ℕ) (i b : ℕ) → is_next c b ≡ true → step (goes st m) (attribute (c ∷ p)) i b ≡ some (with_ccy st p)
+ccy-taken : (st : State) (m : Mode) (c : ℕ) (p : List ℕ) (i b : ℕ) → is_next c b ≡ true → step (goes st m) (attribute (c ∷ p)) i b ≡ Some (with_ccy st p)
 unfolding step
 ccy-taken st m c [] i b e = rw e
 ccy-taken st m c (d ∷ p) i b e = rw e
 
-ccy-refused : (st : State) (c : ℕ) (p : List ℕ) (i b : ℕ) → is_next c b ≡ false → step st (attribute (c ∷ p)) i b ≡ none
+ccy-refused : (st : State) (c : ℕ) (p : List ℕ) (i b : ℕ) → is_next c b ≡ false → step st (attribute (c ∷ p)) i b ≡ None
 unfolding step
 ccy-refused st c [] i b e = rw e
 ccy-refused st c (d ∷ p) i b e = rw e
 
-end-taken : (st : State) (m : Mode) (c : ℕ) (r : List ℕ) (i b : ℕ) → b ≡ c → step (goes st m) (ending (c ∷ r)) i b ≡ some (with_end st r)
+end-taken : (st : State) (m : Mode) (c : ℕ) (r : List ℕ) (i b : ℕ) → b ≡ c → step (goes st m) (ending (c ∷ r)) i b ≡ Some (with_end st r)
 unfolding step
 end-taken st m c [] i b e = rw (eq-eqb b c e)
 end-taken st m c (d ∷ r) i b e = rw (eq-eqb b c e)
 
-end_refused : (st : State) (c : ℕ) (r : List ℕ) (i b : ℕ) → (b ≡ c → ⊥) → step st (ending (c ∷ r)) i b ≡ none
+end_refused : (st : State) (c : ℕ) (r : List ℕ) (i b : ℕ) → (b ≡ c → ⊥) → step st (ending (c ∷ r)) i b ≡ None
 unfolding step
 end_refused st c [] i b e = rw (ne_eqb b c e)
 end_refused st c (d ∷ r) i b e = rw (ne_eqb b c e)
@@ -79,18 +79,36 @@ module _ (s : List ℕ) (from k : ℕ) (so_far : CcyTo s from k) (h : k < 10) wh
       rw (add-one k, add-suc from k)
       (so_far st ∙ rw left (ccy-goes s (from + k) (get_or ccy_pattern k 0) (drop (suc k) ccy_pattern) st l e))
 
-  pub ccy-wrong : is_next (get_or ccy_pattern k 0) (get_or s (from + k) 0) ≡ false → AttributeRead s from (Stopped (from + k))
+  pub ccy-wrong : is_next (get_or ccy_pattern k 0) (get_or s (from + k) 0) ≡ false → AttributeRead s from (refusal (from + k))
   ccy-wrong e = record { comes = λ st. so_far st ∙ rw left (ccy-stops s (from + k) (get_or ccy_pattern k 0) (drop (suc k) ccy_pattern) st e) }
 
-  pub ccy-cut : length s ≤ from + k → AttributeRead s from (Stopped (from + k))
-  ccy-cut l = record {
-    comes = λ st. so_far st ∙ rw left (run_end s (goes st (attribute (get_or ccy_pattern k 0 ∷ drop (suc k) ccy_pattern))) (from + k) refl l);
-  }
+-- none of it is the 0 that stands past a sheet's end
+no-zero : (k : ℕ) → k < 10 → is_next (get_or ccy_pattern k 0) 0 ≡ false
+unfolding is_capital
+no-zero zero h = refl
+no-zero (suc zero) h = refl
+no-zero (suc (suc zero)) h = refl
+no-zero (suc (suc (suc zero))) h = refl
+no-zero (suc (suc (suc (suc zero)))) h = refl
+no-zero (suc (suc (suc (suc (suc zero))))) h = refl
+no-zero (suc (suc (suc (suc (suc (suc zero)))))) h = refl
+no-zero (suc (suc (suc (suc (suc (suc (suc zero))))))) h = refl
+no-zero (suc (suc (suc (suc (suc (suc (suc (suc zero)))))))) h = refl
+no-zero (suc (suc (suc (suc (suc (suc (suc (suc (suc zero))))))))) h = refl
+no-zero (suc (suc (suc (suc (suc (suc (suc (suc (suc (suc k)))))))))) h = absurd (omega arith)
+
+pub ccy-inside : (s : List ℕ) (from k : ℕ) → k < 10 → is_next (get_or ccy_pattern k 0) (get_or s (from + k) 0) ≡ true → from + k < length s
+ccy-inside s from k h e = go (ltb (from + k) (length s)) refl
+  where
+    go : (t : Bool) → ltb (from + k) (length s) ≡ t → from + k < length s
+    go true q = ltb-true (from + k) (length s) q
+    go false q =
+        absurd (false≢true (sym (no-zero k h) ∙ rw (get_or-eq_default s 0 (ltb-false (from + k) (length s) q)) at e))
 
 pub ccy-begins : (s : List ℕ) (from : ℕ) → CcyTo s from 0
 ccy-begins s from st = rw (add-zero from)
 
-pub ccy-done : (s : List ℕ) (from k : ℕ) → CcyTo s from k → k ≡ 10 → from + k ≤ length s → AttributeRead s from (To (from + 10))
+pub ccy-done : (s : List ℕ) (from k : ℕ) → CcyTo s from k → k ≡ 10 → from + k ≤ length s → AttributeRead s from (Ok (from + 10))
 ccy-done s from k so_far e h = record {
   comes = λ st. (subst (λ (n : ℕ). run_at s (with_ccy st ccy_pattern) from ≡ run_at s (with_ccy st (drop n ccy_pattern)) (from + n)) e (so_far st), omega arith, subst (λ (n : ℕ). from + n ≤ length s) e h);
 }
@@ -101,7 +119,7 @@ end_at : (s : List ℕ) (from to k : ℕ) → to ≤ length s → k < to - from
 end_at s from to k h l =
     let long : length (part_of s from to ++ bytes ">") ≡ to - from + 1 = rw (length-append (part_of s from to) (bytes ">"), part_length s from to h) in
     drop-cons (part_of s from to ++ bytes ">") k 0 (omega arith)
-    ∙ rw (get_or-append (part_of s from to) (bytes ">") 0 k (rw (part_length s from to h) l), get_or-take (to - from) (drop from s) k 0 l, get_or-drop from s k 0)
+    ∙ rw (get_or-append (part_of s from to) (bytes ">") 0 k (rw (part_length s from to h) l), part-at s from to k l)
 
 end_last : (s : List ℕ) (from to n : ℕ) → to ≤ length s → n ≡ to - from → drop n (part_of s from to ++ bytes ">") ≡ bytes ">"
 end_last s from to n h e = drop_at (part_of s from to) (bytes ">") n (part_length s from to h ∙ sym e)
@@ -128,12 +146,12 @@ module _ (s : List ℕ) (at from to : ℕ) (inside : to ≤ length s) where
         rw (add-one k, add-suc at k)
         (so_far st ∙ rw (end_at s from to k inside l) (end_goes s (at + k) (get_or s (from + k) 0) (drop (suc k) (part_of s from to ++ bytes ">")) st h e))
 
-    pub end-wrong : k < to - from → (get_or s (at + k) 0 ≡ get_or s (from + k) 0 → ⊥) → ClosingRead s at from to (Stopped (at + k))
+    pub end-wrong : k < to - from → (get_or s (at + k) 0 ≡ get_or s (from + k) 0 → ⊥) → ClosingRead s at from to (refusal (at + k))
     end-wrong l e = record {
       comes = λ st. so_far st ∙ rw (end_at s from to k inside l) (end-stops s (at + k) (get_or s (from + k) 0) (drop (suc k) (part_of s from to ++ bytes ">")) st e);
     }
 
-    pub end-cut : k < to - from → length s ≤ at + k → ClosingRead s at from to (Stopped (at + k))
+    pub end-cut : k < to - from → length s ≤ at + k → ClosingRead s at from to (refusal (at + k))
     end-cut l h = record {
       comes = λ st. so_far st ∙ rw (end_at s from to k inside l) (run_end s (goes st (ending (get_or s (from + k) 0 ∷ drop (suc k) (part_of s from to ++ bytes ">")))) (at + k) refl h);
     }
@@ -142,7 +160,7 @@ module _ (s : List ℕ) (at from to : ℕ) (inside : to ≤ length s) where
     at_last : EndTo s at from to n
     at_last = subst (EndTo s at from to) last so_far
 
-    pub end-done : get_or s (at + n) 0 ≡ 62 → ClosingRead s at from to (To (at + n + 1))
+    pub end-done : get_or s (at + n) 0 ≡ 62 → ClosingRead s at from to (Ok (at + n + 1))
     end-done b =
         let h = in-sheet s (at + n) 61 b in
         record {
@@ -153,5 +171,5 @@ module _ (s : List ℕ) (at from to : ℕ) (inside : to ≤ length s) where
           );
         }
 
-    pub end-open : (get_or s (at + n) 0 ≡ 62 → ⊥) → ClosingRead s at from to (Stopped (at + n))
+    pub end-open : (get_or s (at + n) 0 ≡ 62 → ⊥) → ClosingRead s at from to (refusal (at + n))
     end-open b = record { comes = λ st. at_last st ∙ rw (end_last s from to n inside e) (end-stops s (at + n) 62 [] st b) }

@@ -1,6 +1,5 @@
 -- What reading a sheet gives, worked out by the machine: how many elements and where, or the place of the refusal.
-use Rattle.std.specs.Prelude.{cond, List, [], ◌∷◌, ℕ, suc, leb, length, replicate}
-use Rattle.std.proofs.Math.Option.{Option, none, some}
+use Rattle.std.specs.Prelude.{cond, List, [], ◌∷◌, ℕ, suc, leb, length, replicate, Some, None}
 use Rattle.sheet.specs.Grammar.{sheet_most, element_most}
 pub use Rattle.sheet.specs.Right.{Reading, accepted, refused}
 use Rattle.sheet.specs.Machine.{Mode, outer, begun, naming, attribute, tagged, texting, ending, between, turning, whole, State, step}
@@ -21,7 +20,7 @@ ends st turning i = refused i
 -- the bytes from place i on
 unfoldable pub run : State → ℕ → List ℕ → Reading
 run st i [] = ends st st.mode i
-run st i (b ∷ s) = elim (step st st.mode i b) [ none ↦ refused i | some next ↦ run next (suc i) s ]
+run st i (b ∷ s) = elim (step st st.mode i b) [ None ↦ refused i | Some next ↦ run next (suc i) s ]
 
 -- 256 empty places
 abbrev pub empty_list : List ℕ

@@ -1,9 +1,8 @@
 -- The sheet of document 01, "The sheet", as trees: what an element is, how it is written, which trees are good.
 -- A sheet is well formed where it is what a good tree is written as; a text is viable where some well-formed sheet begins with it.
-use Rattle.std.specs.Prelude.{◌≡◌, Bool, true, false, ◌&&◌, ◌||◌, List, [], ◌∷◌, ◌++◌, ℕ, suc, ◌+◌, ◌-◌, ◌≤◌, max, leb, length, replicate}
-use Rattle.std.proofs.Math.Option.{Option, none, some}
+use Rattle.std.specs.Prelude.{◌≡◌, Bool, true, false, ◌&&◌, ◌||◌, List, [], ◌∷◌, ◌++◌, ℕ, suc, ◌+◌, ◌-◌, ◌≤◌, max, leb, length, replicate, Option, Some, None}
 use Rattle.shape.specs.Text.{bytes}
-use Rattle.shape.specs.Bytes.{every, is_digit, is_letter, is_capital, is_text}
+use Rattle.shape.specs.Bytes.{every, is_digit, is_letter, is_text}
 use Rattle.shape.specs.Patterns.{fits, currency_pattern}
 
 -- An element has a name and holds a text, perhaps with a Ccy, or one or more elements.
@@ -18,8 +17,8 @@ mutual
 
 -- `<Name>`, with its Ccy where it has one, and `</Name>`
 abbrev pub opening : List ℕ → Option (List ℕ) → List ℕ
-opening name none = bytes "<" ++ (name ++ bytes ">")
-opening name (some ccy) = bytes "<" ++ (name ++ (bytes " Ccy=\"" ++ (ccy ++ bytes "\">")))
+opening name None = bytes "<" ++ (name ++ bytes ">")
+opening name (Some ccy) = bytes "<" ++ (name ++ (bytes " Ccy=\"" ++ (ccy ++ bytes "\">")))
 
 abbrev pub closing : List ℕ → List ℕ
 closing name = bytes "</" ++ (name ++ bytes ">")
@@ -28,7 +27,7 @@ closing name = bytes "</" ++ (name ++ bytes ">")
 unfoldable mutual
   pub render : Element → List ℕ
   render (leaf name ccy text) = opening name ccy ++ (text ++ closing name)
-  render (parent name es) = opening name none ++ (render_all es ++ closing name)
+  render (parent name es) = opening name None ++ (render_all es ++ closing name)
 
   pub render_all : Elements → List ℕ
   render_all (one e) = render e
@@ -57,7 +56,7 @@ unfoldable mutual
 unfoldable mutual
   pub starts_from : Element → ℕ → List ℕ
   starts_from (leaf name ccy text) i = i ∷ []
-  starts_from (parent name es) i = i ∷ starts_all es (i + length (opening name none))
+  starts_from (parent name es) i = i ∷ starts_all es (i + length (opening name None))
 
   pub starts_all : Elements → ℕ → List ℕ
   starts_all (one e) i = starts_from e i
@@ -103,8 +102,8 @@ is_name (b ∷ s) = is_letter b && every is_name_byte s && leb (length (b ∷ s)
 
 -- three capitals, where a Ccy is given
 unfoldable pub is_ccy : Option (List ℕ) → Bool
-is_ccy none = true
-is_ccy (some ccy) = fits currency_pattern ccy
+is_ccy None = true
+is_ccy (Some ccy) = fits currency_pattern ccy
 
 -- 1 to 140 bytes of a text
 unfoldable pub is_content : List ℕ → Bool

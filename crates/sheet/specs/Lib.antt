@@ -6,3 +6,4 @@ pub mod Parts
 pub mod Element
 pub mod Sheet
 pub mod Reader
+pub mod Words

@@ -1,8 +1,7 @@
 -- The reading of a sheet, byte by byte: one definition that can be worked out. That it is the grammar's reading is proved in `proofs/`.
 -- A state knows what may follow, the names of the elements that are open, and the element list so far: how many were begun, and for each
 -- where it starts (its `<`) and how deep it stands. The outer element stands at depth 1.
-use Rattle.std.specs.Prelude.{Bool, true, false, not, ◌&&◌, cond, List, [], ◌∷◌, ◌++◌, ℕ, suc, ◌-◌, ltb, eqb, length, set}
-use Rattle.std.proofs.Math.Option.{Option, none, some}
+use Rattle.std.specs.Prelude.{Bool, true, false, not, ◌&&◌, cond, List, [], ◌∷◌, ◌++◌, ℕ, suc, ◌-◌, ltb, eqb, length, set, Option, Some, None}
 use Prim.Native.Char.{code}
 use Rattle.shape.specs.Text.{bytes}
 use Rattle.shape.specs.Bytes.{is_letter, is_capital, is_text}
@@ -82,35 +81,35 @@ is_next c b = cond (eqb c (code "^")) (is_capital b) (eqb b c)
 
 -- the first state that passes its test, if one does
 abbrev pub when : Bool → State → Option State → Option State
-when true st other = some st
+when true st other = Some st
 when false st other = other
 
 -- one byte more, at place i: the next state, or none where no well-formed sheet goes on so
 unfoldable pub step : State → Mode → ℕ → ℕ → Option State
-step st outer i b = when (eqb b (code "<")) (goes st begun) none
-step st begun i b = when (is_letter b) (begins st i b) none
+step st outer i b = when (eqb b (code "<")) (goes st begun) None
+step st begun i b = when (is_letter b) (begins st i b) None
 step st (naming n) i b =
     when (is_name_byte b && ltb (length n) name_most) (goes st (naming (n ++ (b ∷ []))))
     (when (eqb b (code ">")) (opens st n (tagged false))
     (when (eqb b (code " ")) (opens st n (attribute (bytes "Ccy=\"^^^\">")))
-    none))
-step st (attribute []) i b = none
-step st (attribute (c ∷ [])) i b = when (is_next c b) (goes st (tagged true)) none
-step st (attribute (c ∷ d ∷ p)) i b = when (is_next c b) (goes st (attribute (d ∷ p))) none
+    None))
+step st (attribute []) i b = None
+step st (attribute (c ∷ [])) i b = when (is_next c b) (goes st (tagged true)) None
+step st (attribute (c ∷ d ∷ p)) i b = when (is_next c b) (goes st (attribute (d ∷ p))) None
 step st (tagged ccy) i b =
     when (is_text b) (goes st (texting 1))
     (when (eqb b (code "<") && not ccy && ltb (length st.names) depth_most && may_begin st) (goes st begun)
-    none)
+    None)
 step st (texting k) i b =
     when (is_text b && ltb k text_most) (goes st (texting (suc k)))
     (when (eqb b (code "<")) (goes st (ending (bytes "/" ++ (innermost st.names ++ bytes ">"))))
-    none)
-step st (ending []) i b = none
-step st (ending (c ∷ [])) i b = when (eqb b c) (closes st) none
-step st (ending (c ∷ d ∷ r)) i b = when (eqb b c) (goes st (ending (d ∷ r))) none
-step st between i b = when (eqb b (code "<")) (goes st turning) none
+    None)
+step st (ending []) i b = None
+step st (ending (c ∷ [])) i b = when (eqb b c) (closes st) None
+step st (ending (c ∷ d ∷ r)) i b = when (eqb b c) (goes st (ending (d ∷ r))) None
+step st between i b = when (eqb b (code "<")) (goes st turning) None
 step st turning i b =
     when (eqb b (code "/")) (goes st (ending (innermost st.names ++ bytes ">")))
     (when (is_letter b && may_begin st) (begins st i b)
-    none)
-step st whole i b = none
+    None)
+step st whole i b = None

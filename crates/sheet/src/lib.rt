@@ -11,14 +11,11 @@ mod reader;
 
 ghost use Rattle.std.specs.Prelude.{◌≡◌};
 ghost use Rattle.sheet.specs.Sheet.{Answers, sheet_of};
-ghost use Rattle.sheet.specs.Answer.{refused, reading_of};
+ghost use Rattle.sheet.specs.Answer.{reading_of};
 
-use element::element;
-pub use parts::is_name_byte;
-pub use reader::{
-    Ahead, Reader, begin, moved, name_bytes_end, next, next_at, next_in, part, place, shown,
-    shown_at,
-};
+use element::{Came, element};
+pub use parts::{Refused, is_name_byte};
+pub use reader::{Ahead, Reader, name_bytes_end, next_at, next_in, part, shown_at};
 use shape::byte::peek;
 
 // The limits of a sheet: bytes of a name and of a text, how deep its elements nest, how many there are, and its bytes in all.
@@ -32,54 +29,35 @@ pub const ELEMENT_MOST: usize = 256;
 
 pub const SHEET_MOST: usize = 8192;
 
-// A sheet that was read. Refused, it has its place and nothing else; accepted, the number of its elements, and for each its `<` and its depth.
+// A sheet that was read: the number of its elements, and for each its `<` and its depth.
+// Two lists of 256 places, as document 01 says of an element list; no pairs.
 #[derive(Clone, Copy)]
 pub struct Sheet {
-    pub accepted: bool,
-    pub place: usize,
     pub count: usize,
     pub starts: [usize; ELEMENT_MOST],
     pub depths: [usize; ELEMENT_MOST],
 }
 
-fn refused(place: usize) -> Sheet
-    ensures { result ≡ sheet_of (refused place) }
-{
-    Sheet {
-        accepted: false,
-        place,
-        count: 0,
-        starts: [0; ELEMENT_MOST],
-        depths: [0; ELEMENT_MOST],
-    }
-}
-
 // Reads a sheet. The first clause says what is right by the grammar, the second gives the same answer as a definition that computes.
-pub fn read(s: &[u8]) -> Sheet
+pub fn read(s: &[u8]) -> Result<Sheet, Refused>
     ensures answers { Answers s.now result }
     ensures value { result ≡ sheet_of (reading_of s.now) }
 {
     if SHEET_MOST < s.len() {
-        return refused(SHEET_MOST);
+        return Err(Refused { place: SHEET_MOST });
     }
     if peek(s, 0) != b'<' {
-        return refused(0);
+        return Err(Refused { place: 0 });
     }
     let mut starts = [0usize; ELEMENT_MOST];
     let mut depths = [0usize; ELEMENT_MOST];
-    let came = element(s, 1, DEPTH_MOST, 0, &mut starts, &mut depths);
-    let place = came.place;
-    if !came.whole {
-        return refused(place);
-    }
+    let Came { place, count } = element(s, 1, DEPTH_MOST, 0, &mut starts, &mut depths)?;
     if place < s.len() {
-        return refused(place);
+        return Err(Refused { place });
     }
-    Sheet {
-        accepted: true,
-        place: 0,
-        count: came.count,
+    Ok(Sheet {
+        count,
         starts,
         depths,
-    }
+    })
 }

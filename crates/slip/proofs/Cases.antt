@@ -12,10 +12,10 @@ use Rattle.slip.specs.declared.Form.TheVariants.{FiveBytes, SixBytes}
 use Rattle.slip.specs.declared.Slip.{Slip}
 use Rattle.slip.specs.declared.Status.{Status}
 use Rattle.slip.specs.declared.Status.TheVariants.{Pdng, Accc, Rjct, Waits}
-use Rattle.slip.specs.declared.Reading.TheVariants.{Holds, NoSlip}
+use Rattle.std.specs.Prelude.{Ok, Err}
 use Rattle.slip.specs.Meaning.{kind_number, status_number, either_says, six_alone_says, sayings, says_in, measures}
 use Rattle.slip.specs.Image.{image_in, slip_number, image, slip_of}
-use Rattle.slip.specs.Answers.{read_answer, holds_slip}
+use Rattle.slip.specs.Answers.{no_slip, read_answer, holds_slip}
 
 -- camt.050, accepted, seat 3, opening 1, step 1; and seat 6, opening 2, step 2
 abbrev accepted : Slip
@@ -29,7 +29,7 @@ case-8-five : image_in (measures FiveBytes) accepted ≡ 0x48 ∷ 0x0C ∷ 0x00 
 unfolding kind_number status_number
 case-8-five = refl
 
-case-8-five-read : read_answer (0x48 ∷ 0x0C ∷ 0x00 ∷ 0x04 ∷ 0x01 ∷ []) ≡ Holds accepted
+case-8-five-read : read_answer (0x48 ∷ 0x0C ∷ 0x00 ∷ 0x04 ∷ 0x01 ∷ []) ≡ Ok accepted
 unfolding read_answer holds_slip sayings either_says six_alone_says kind_number status_number slip_of
 case-8-five-read = refl
 
@@ -38,24 +38,24 @@ case-8-six : image accepted ≡ 0x48 ∷ 0x06 ∷ 0x00 ∷ 0x02 ∷ 0x00 ∷ 0x8
 unfolding image slip_number kind_number status_number
 case-8-six = refl
 
-case-8-six-read : read_answer (0x48 ∷ 0x06 ∷ 0x00 ∷ 0x02 ∷ 0x00 ∷ 0x80 ∷ []) ≡ Holds accepted
+case-8-six-read : read_answer (0x48 ∷ 0x06 ∷ 0x00 ∷ 0x02 ∷ 0x00 ∷ 0x80 ∷ []) ≡ Ok accepted
 unfolding read_answer holds_slip sayings either_says six_alone_says kind_number status_number slip_of
 case-8-six-read = refl
 
 -- the five bytes with a zero byte after them are another slip: the length alone says the form
-five-and-zero : read_answer (0x48 ∷ 0x0C ∷ 0x00 ∷ 0x04 ∷ 0x01 ∷ 0x00 ∷ []) ≡ Holds other
+five-and-zero : read_answer (0x48 ∷ 0x0C ∷ 0x00 ∷ 0x04 ∷ 0x01 ∷ 0x00 ∷ []) ≡ Ok other
 unfolding read_answer holds_slip sayings either_says six_alone_says kind_number status_number slip_of
 five-and-zero = refl
 
 -- a bit that is set after the values makes the bytes no slip
-last_bit : read_answer (0x48 ∷ 0x06 ∷ 0x00 ∷ 0x02 ∷ 0x00 ∷ 0x81 ∷ []) ≡ NoSlip
+last_bit : read_answer (0x48 ∷ 0x06 ∷ 0x00 ∷ 0x02 ∷ 0x00 ∷ 0x81 ∷ []) ≡ Err no_slip
 unfolding read_answer holds_slip sayings either_says six_alone_says kind_number status_number slip_of
 last_bit = refl
 
 -- a slip and its bytes, which are its image and are read as it
 record Both (s : Slip) (bytes : List ℕ) : Type 0 where
   written : image s ≡ bytes
-  read : read_answer bytes ≡ Holds s
+  read : read_answer bytes ≡ Ok s
 
 -- a slip of seat 0, opening 1
 abbrev early : Kind → Status → ℕ → ℕ → Slip
@@ -97,11 +97,11 @@ unfolding image slip_number read_answer holds_slip sayings either_says six_alone
 told = record { written = refl; read = refl }
 
 -- in five bytes status 3 and kind 4 are no slip, whatever comes after them
-waits-in-five : read_answer (image_in (measures FiveBytes) (early Pacs008 Waits 0 1)) ≡ NoSlip
+waits-in-five : read_answer (image_in (measures FiveBytes) (early Pacs008 Waits 0 1)) ≡ Err no_slip
 unfolding read_answer holds_slip either_says kind_number status_number slip_of
 waits-in-five = refl
 
-settled-in-five : read_answer (image_in (measures FiveBytes) (early Pacs002 Accc 0 2)) ≡ NoSlip
+settled-in-five : read_answer (image_in (measures FiveBytes) (early Pacs002 Accc 0 2)) ≡ Err no_slip
 unfolding read_answer holds_slip either_says kind_number status_number slip_of
 settled-in-five = refl
 

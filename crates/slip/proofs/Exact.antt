@@ -14,11 +14,10 @@ use Rattle.shape.proofs.Tests.{and_left, and_right}
 use Rattle.slip.specs.declared.Form.{Form}
 use Rattle.slip.specs.declared.Form.TheVariants.{FiveBytes, SixBytes}
 use Rattle.slip.specs.declared.Slip.{Slip}
-use Rattle.slip.specs.declared.Reading.TheVariants.{Holds, NoSlip}
-use Rattle.slip.specs.declared.Writing.TheVariants.{Written, NotWritten}
+use Rattle.std.specs.Prelude.{Ok, Err}
 use Rattle.slip.specs.Meaning.{slip_long, five_bytes, six_bytes, measures, form_of, is_slip_in, is_slip}
 use Rattle.slip.specs.Image.{are_bytes, Fits, image_in, held_in, spare_zero, bytes_number, slip_number, image, slip_of}
-use Rattle.slip.specs.Answers.{buffer_short, can_write, write_answer, write_after, holds_in, holds_slip, read_answer}
+use Rattle.slip.specs.Answers.{no_slip, buffer_short, can_write, write_answer, write_after, holds_in, holds_slip, read_answer}
 use Rattle.slip.proofs.Small.{sound, slip-fits}
 use Rattle.slip.proofs.Forms as forms
 
@@ -43,11 +42,11 @@ unfolding slip_of
 held-there form f = ap (λ (x : Form). held_in (measures x) (bytes_number (image_in (measures form) f))) (image-form form f)
 
 -- what reading gives was found by the test
-found : (t : Bool) (v f : Slip) → cond t (Holds v) NoSlip ≡ Holds f → (t ≡ true) × (v ≡ f)
+found : (t : Bool) (v f : Slip) → cond t (Ok v) (Err no_slip) ≡ Ok f → (t ≡ true) × (v ≡ f)
 found true v f h = (refl, cc)
 found false v f h = absurd (let z : ◌≡◌ {A = ℕ} 0 1 = cc in omega arith)
 
-held : (t : Bool) (v f : Slip) → t ≡ true → v ≡ f → cond t (Holds v) NoSlip ≡ Holds f
+held : (t : Bool) (v f : Slip) → t ≡ true → v ≡ f → cond t (Ok v) (Err no_slip) ≡ Ok f
 held true v f h e = cc
 held false v f h e = absurd (false≢true h)
 
@@ -86,12 +85,12 @@ module _ (form : Form) (f : Slip) (e : is_slip_in (measures form) f ≡ true) wh
   pub shown-back : slip_of (image_in (measures form) f) ≡ f
   shown-back = held-there form f ∙ forms.image-back (measures form) (sound form) f (slip-fits (measures form) (sound form) f e)
 
-  shown_read : read_answer (image_in (measures form) f) ≡ Holds f
+  shown_read : read_answer (image_in (measures form) f) ≡ Ok f
   unfolding read_answer
   shown_read = held (holds_slip (image_in (measures form) f)) (slip_of (image_in (measures form) f)) f shown-holds shown-back
 
 -- the theorem: reading gives f exactly when the bytes are what f is in a form in which it is a slip
-pub read-exactly : (s : List ℕ) (f : Slip) → are_bytes s ≡ true → (read_answer s ≡ Holds f) ↔ Shows s f
+pub read-exactly : (s : List ℕ) (f : Slip) → are_bytes s ≡ true → (read_answer s ≡ Ok f) ↔ Shows s f
 unfolding read_answer
 read-exactly s f e = (
   λ h.
@@ -117,7 +116,7 @@ pub written-fits : (f : Slip) → is_slip f ≡ true → Fits (measures SixBytes
 unfolding is_slip
 written-fits f e = slip-fits (measures SixBytes) (sound SixBytes) f e
 
-pub image-read : (f : Slip) → is_slip f ≡ true → read_answer (image f) ≡ Holds f
+pub image-read : (f : Slip) → is_slip f ≡ true → read_answer (image f) ≡ Ok f
 unfolding is_slip
 image-read f e = ap read_answer (image-six f) ∙ shown_read SixBytes f e
 
@@ -132,11 +131,11 @@ writable-long f buffer e =
     ltb-false (length buffer) slip_long (not-true (buffer_short buffer) (and_left (not (buffer_short buffer)) (is_slip f) e))
 
 -- what was written is read back, whatever stands after it
-pub written_read : (f : Slip) (buffer : List ℕ) → write_answer f buffer ≡ Written → read_answer (take slip_long (write_after f buffer)) ≡ Holds f
+pub written_read : (f : Slip) (buffer : List ℕ) → write_answer f buffer ≡ Ok tt → read_answer (take slip_long (write_after f buffer)) ≡ Ok f
 unfolding write_answer write_after image
 written_read f buffer e = go (can_write f buffer) refl e
   where
-    go : (t : Bool) → can_write f buffer ≡ t → cond t Written NotWritten ≡ Written
-        → read_answer (take slip_long (cond t (image f ++ drop slip_long buffer) buffer)) ≡ Holds f
+    go : (t : Bool) → can_write f buffer ≡ t → cond t (Ok (tt {0})) (Err no_slip) ≡ Ok tt
+        → read_answer (take slip_long (cond t (image f ++ drop slip_long buffer) buffer)) ≡ Ok f
     go true c h = image-read f (writable f buffer c)
     go false c h = absurd (let z : ◌≡◌ {A = ℕ} 0 1 = cc in omega arith)

@@ -1,8 +1,6 @@
 pub mod Meanings
-pub mod Ranges
 pub mod Small
 pub mod Bytes
-pub mod Measured
 pub mod Forms
 pub mod Exact
 pub mod Cases

@@ -1,32 +1,17 @@
--- What a slip may say: a test of the whole table holds of whatever the table may say, and each line says what it says.
+-- What a slip may say: a test of the whole table holds of whatever the table may say, and six bytes may say what five may and more.
 -- Assumes nothing.
 use mathlib.Core.Path.{◌≡◌, refl, sym}
-use mathlib.Core.Bool.{Bool, true, false, ◌&&◌, ◌||◌, or-false, or_assoc, false≢true}
+use mathlib.Core.Bool.{Bool, true, ◌&&◌, ◌||◌, or_assoc, false≢true}
 use mathlib.Core.List.{List, [], ◌∷◌, ◌++◌}
-use Prim.Native.Nat.{ℕ, ◌<◌, ◌≤◌}
-use native.Mathlib.Omega.{arith}
-use lib.Dec.{leb, eqb}
-use borrow.Author.Tests.{leb-true, eqb-true}
+use Prim.Native.Nat.{ℕ}
+use lib.Dec.{eqb}
+use borrow.Author.Tests.{eqb-true}
 use Rattle.shape.specs.Bytes.{every}
 use Rattle.shape.proofs.Tests.{and_left, and_right, or_cases}
-use Rattle.table.specs.Checks.{checks_most, is_in}
+use Rattle.table.specs.Checks.{is_in}
 use Rattle.table.proofs.Rules.{of_entry}
 use Rattle.slip.specs.declared.Form.TheVariants.{SixBytes}
-use Rattle.slip.specs.Meaning.{
-  kind_number,
-  status_number,
-  Saying,
-  pacs008_checks,
-  camt050_checks,
-  pacs028_checks,
-  pacs002_checks,
-  refusals,
-  either_says,
-  six_alone_says,
-  sayings,
-  says_in,
-  measures,
-}
+use Rattle.slip.specs.Meaning.{Saying, either_says, six_alone_says, sayings, says_in, measures}
 
 -- a test of a kind and a status with each of their checks
 abbrev pub of_saying : (ℕ → ℕ → ℕ → Bool) → Saying → Bool
@@ -58,73 +43,7 @@ says_both (x ∷ xs) ys kind status check =
     rw (says_both xs ys kind status check) (sym (or_assoc here (says_in xs kind status check) (says_in ys kind status check)))
 
 -- six bytes may say what either form may, and what they alone may
-pub says-in-six : (kind status check : ℕ)
+pub says_in_six : (kind status check : ℕ)
     → (says_in either_says kind status check || says_in six_alone_says kind status check) ≡ says_in (measures SixBytes).sayings kind status check
 unfolding sayings
-says-in-six kind status check = sym (says_both either_says six_alone_says kind status check)
-
--- law: a table whose checks are all in the table of checks says nothing with a check past the last one
-none-past : (xs : List Saying) → every (of_saying (λ (k s c : ℕ). leb c checks_most)) xs ≡ true
-    → (kind status check : ℕ) → checks_most < check → says_in xs kind status check ≡ false
-none-past xs t kind status check h = go (says_in xs kind status check) refl
-  where
-    go : (b : Bool) → says_in xs kind status check ≡ b → b ≡ false
-    go true e = absurd (past (leb-true check checks_most (of-sayings (λ (k s c : ℕ). leb c checks_most) xs t kind status check e)))
-      where
-        past : check ≤ checks_most → ⊥
-        past l = omega arith
-    go false e = refl
-
-pub either-none-past : (kind status check : ℕ) → checks_most < check → says_in either_says kind status check ≡ false
-unfolding either_says
-either-none-past = none-past either_says refl
-
-pub six-alone-none-past : (kind status check : ℕ) → checks_most < check → says_in six_alone_says kind status check ≡ false
-unfolding six_alone_says
-six-alone-none-past = none-past six_alone_says refl
-
--- the lines of the tables, one after the other, over what is known of the check
-unfoldable pub either_lines : (kind status check : ℕ) (pacs008 camt050 pacs028 : Bool) → Bool
-either_lines kind status check pacs008 camt050 pacs028 =
-    eqb kind 1 && eqb status 1 && eqb check 0
-    || eqb kind 1 && eqb status 2 && pacs008
-    || eqb kind 2 && eqb status 1 && eqb check 0
-    || eqb kind 2 && eqb status 2 && camt050
-    || eqb kind 3 && eqb status 0 && pacs028
-    || eqb kind 3 && eqb status 1 && eqb check 0
-    || eqb kind 3 && eqb status 2 && pacs008
-
-unfoldable pub six_alone_lines : (kind status check : ℕ) (refused pacs002 : Bool) → Bool
-six_alone_lines kind status check refused pacs002 =
-    eqb kind 1 && eqb status 3 && eqb check 0
-    || eqb kind 3 && eqb status 2 && refused
-    || eqb kind 4 && eqb status 1 && eqb check 0
-    || eqb kind 4 && eqb status 2 && pacs002
-
-seven : (a b c d e f g : Bool) → (a || (b || (c || (d || (e || (f || (g || false))))))) ≡ (a || b || c || d || e || f || g)
-seven a b c d e f g = simp (or_assoc, or-false)
-
-four : (a b c d : Bool) → (a || (b || (c || (d || false)))) ≡ (a || b || c || d)
-four a b c d = simp (or_assoc, or-false)
-
-pub either-lines : (kind status check : ℕ) → says_in either_says kind status check
-    ≡ either_lines kind status check (is_in check pacs008_checks) (is_in check camt050_checks) (is_in check pacs028_checks)
-unfolding either_says kind_number status_number either_lines
-either-lines kind status check =
-    rw (or-false (eqb check 0))
-    (seven (eqb kind 1 && eqb status 1 && eqb check 0) (eqb kind 1 && eqb status 2 && is_in check pacs008_checks)
-    (eqb kind 2 && eqb status 1 && eqb check 0) (eqb kind 2 && eqb status 2 && is_in check camt050_checks)
-    (eqb kind 3 && eqb status 0 && is_in check pacs028_checks) (eqb kind 3 && eqb status 1 && eqb check 0)
-    (eqb kind 3 && eqb status 2 && is_in check pacs008_checks))
-
-pub six-alone-lines : (kind status check : ℕ)
-    → says_in six_alone_says kind status check ≡ six_alone_lines kind status check (is_in check refusals) (is_in check pacs002_checks)
-unfolding six_alone_says kind_number status_number six_alone_lines
-six-alone-lines kind status check =
-    rw (or-false (eqb check 0))
-    (four (eqb kind 1 && eqb status 3 && eqb check 0) (eqb kind 3 && eqb status 2 && is_in check refusals)
-    (eqb kind 4 && eqb status 1 && eqb check 0) (eqb kind 4 && eqb status 2 && is_in check pacs002_checks))
-
--- the refusals are two checks
-pub two-refusals : (check : ℕ) → (eqb check 36 || eqb check 37) ≡ is_in check refusals
-two-refusals check = rw (or-false (eqb check 37))
+says_in_six kind status check = sym (says_both either_says six_alone_says kind status check)

@@ -1,8 +1,10 @@
 -- The bits of a slip, most significant first, and the bytes that hold them: document 01, "The slip", and request 8 of document 02. Said of any
 -- form by its measures; then of what is written, and of what is read.
-use Rattle.std.specs.Prelude.{Bool, List, [], ◌∷◌, map, ℕ, zero, suc, ◌<◌, ◌^◌, ltb, eqb, length, get_or, replicate}
+use Rattle.std.specs.Prelude.{Bool, ◌≡◌, List, [], ◌∷◌, map, ℕ, zero, suc, ◌<◌, ◌^◌, ltb, eqb, length, get_or, replicate}
 use Rattle.shape.specs.Bits.{joined, cut}
 use Rattle.shape.specs.Bytes.{every}
+use Rattle.slip.specs.declared.Form.{Form}
+use Rattle.slip.specs.declared.Measures.{Measures as Measured}
 use Rattle.slip.specs.declared.Slip.{Slip}
 use Rattle.slip.specs.Meaning.{Widths, Measures, six_bytes, measures, form_of}
 
@@ -90,3 +92,9 @@ image s = bytes_in six_bytes (slip_number s)
 -- what is read: the values that bytes hold in the form that their length says
 unfoldable pub slip_of : List ℕ → Slip
 slip_of bytes = held_in (measures (form_of (length bytes))) (bytes_number bytes)
+
+-- what the code works with is what the form measures
+pub record IsMeasured (form : Form) (m : Measured) : Type 0 where
+  pub seats : m.seats ≡ (measures form).seats
+  pub seat_wide : m.seat_wide ≡ (measures form).widths.seat
+  pub spare_wide : m.spare_wide ≡ (measures form).spare

@@ -1,3 +1,4 @@
 pub mod Meaning
 pub mod Image
 pub mod Answers
+pub mod Words

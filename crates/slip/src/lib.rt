@@ -5,17 +5,21 @@
 // The definitions stand in `specs/`: what a slip means in each form, its bits, and what the two calls answer.
 #![tactic(auto)]
 
-ghost use Rattle.std.specs.Prelude.{◌≡◌, ◌<◌, ◌≤◌, ◌^◌, length};
-ghost use Rattle.table.specs.Checks.{checks_most, is_in};
-ghost use Rattle.slip.specs.Meaning.{kind_number, status_number, slip_long, pacs008_checks, camt050_checks, pacs028_checks, pacs002_checks};
-ghost use Rattle.slip.specs.Meaning.{either_says, six_alone_says, says_in, six_bytes, measures, form_of, is_slip_in};
-ghost use Rattle.slip.specs.Image.{byte_wide, Fits, slip_number, held_in, spare_zero, bytes_number};
+ghost use Rattle.std.specs.Prelude.{◌≡◌, ◌≤◌, length};
+ghost use Rattle.std.specs.Prelude.{Some};
+ghost use Rattle.slip.specs.Meaning.{kind_number, status_number, slip_long};
+ghost use Rattle.slip.specs.Meaning.{either_says, six_alone_says, says_in, six_bytes, measures, is_slip_in};
+ghost use Rattle.slip.specs.Image.{IsMeasured, Fits, slip_number, held_in, spare_zero, bytes_number};
 ghost use Rattle.slip.specs.Answers.{write_answer, write_after, read_answer};
+ghost use Rattle.slip.specs.Words.{words_of};
 
-use table::{CHECKS_MOST, Kind};
+use shape::byte::BYTE_VALUES;
+use std::error::Error;
+use std::fmt;
+use table::Kind;
 
 // How a message ended.
-#[derive(Clone, Copy)]
+#[derive(Clone, Copy, Debug, PartialEq, Eq)]
 pub enum Status {
     Pdng,
     Accc,
@@ -23,8 +27,8 @@ pub enum Status {
     Waits,
 }
 
-// The six values of a slip, as numbers.
-#[derive(Clone, Copy)]
+// The six values of a slip. They are numbers, as C hands them over: whatever numbers come, `write` has to refuse those of no slip.
+#[derive(Clone, Copy, Debug, PartialEq, Eq)]
 pub struct Slip {
     pub kind: u64,
     pub status: u64,
@@ -34,22 +38,22 @@ pub struct Slip {
     pub step: u64,
 }
 
-// What writing a slip answers.
-#[derive(Clone, Copy)]
-pub enum Writing {
-    Written,
-    NotWritten,
+// Refusal 11: the bytes are no slip, or the values are none, or the buffer is too short for one.
+#[derive(Clone, Copy, Debug, PartialEq, Eq)]
+pub struct NoSlip;
+
+impl fmt::Display for NoSlip {
+    ghost output = { λ r. Some (words_of r) };
+
+    fn fmt<W: fmt::Write>(&self, f: &mut fmt::Formatter<W>) -> fmt::Result {
+        write!(f, "no slip")
+    }
 }
 
-// What reading a slip answers.
-#[derive(Clone, Copy)]
-pub enum Reading {
-    Holds(Slip),
-    NoSlip,
-}
+impl Error for NoSlip {}
 
 // The forms of a slip.
-#[derive(Clone, Copy)]
+#[derive(Clone, Copy, Debug, PartialEq, Eq)]
 pub enum Form {
     FiveBytes,
     SixBytes,
@@ -58,6 +62,9 @@ pub enum Form {
 // The bytes of a slip that is written.
 pub const SLIP_LONG: usize = 6;
 
+// The bytes of a slip in the other form, which is read alone.
+const FIVE_LONG: usize = 5;
+
 // The pupils' places in a room, the times that one can be opened, the steps of an exercise.
 pub const SEATS: u64 = 12;
 
@@ -65,22 +72,23 @@ pub const OPENINGS: u64 = 65535;
 
 pub const STEPS: u64 = 24;
 
-// The numbers of the kinds and of the statuses.
-const PACS_008: u64 = 1;
+// The numbers of the kinds and of the statuses: a slip's fields and a row's are numbers, which come from C or out of a room, and the definitions
+// `kind_number` and `status_number` name them.
+pub const PACS_008: u64 = 1;
 
-const CAMT_050: u64 = 2;
+pub const CAMT_050: u64 = 2;
 
-const PACS_028: u64 = 3;
+pub const PACS_028: u64 = 3;
 
-const PACS_002: u64 = 4;
+pub const PACS_002: u64 = 4;
 
-const PDNG: u64 = 0;
+pub const PDNG: u64 = 0;
 
-const ACCC: u64 = 1;
+pub const ACCC: u64 = 1;
 
-const RJCT: u64 = 2;
+pub const RJCT: u64 = 2;
 
-const WAITS: u64 = 3;
+pub const WAITS: u64 = 3;
 
 // How many bits each value has in six bytes, the most significant first.
 const KIND_WIDE: u64 = 3;
@@ -98,20 +106,7 @@ const STEP_WIDE: u64 = 10;
 // The zero bits after them.
 const SPARE_WIDE: u64 = 7;
 
-// What the five-byte form has instead: its bytes, its seats, their bits, and no bits after the values.
-const FIVE_LONG: usize = 5;
-
-const FIVE_SEATS: u64 = 8;
-
-const FIVE_SEAT_WIDE: u64 = 3;
-
-const FIVE_SPARE_WIDE: u64 = 0;
-
-// The bits of a byte, and how many numbers a byte can be.
-const BYTE_WIDE: u64 = 8;
-
-const BYTE_RANGE: u64 = 1 << BYTE_WIDE;
-
+#[tactic(auto, unfolding(crate::specs::Meaning::kind_number))]
 pub fn kind_number(kind: Kind) -> u64
     ensures { result ≡ kind_number kind }
 {
@@ -123,6 +118,7 @@ pub fn kind_number(kind: Kind) -> u64
     }
 }
 
+#[tactic(auto, unfolding(crate::specs::Meaning::status_number))]
 pub fn status_number(status: Status) -> u64
     ensures { result ≡ status_number status }
 {
@@ -134,72 +130,36 @@ pub fn status_number(status: Status) -> u64
     }
 }
 
-// Whether a slip of a kind may name a check. Who fails check 1 or 2 gets no slip.
-fn of_pacs_008(check: u64) -> bool
-    requires { check ≤ checks_most }
-    ensures { result ≡ is_in check pacs008_checks }
-{
-    (check == 3) | ((5 <= check) & (check <= 8)) | (check == 17) | ((20 <= check) & (check <= 34))
-}
-
-fn of_camt_050(check: u64) -> bool
-    requires { check ≤ checks_most }
-    ensures { result ≡ is_in check camt050_checks }
-{
-    ((3 <= check) & (check <= 7)) | ((12 <= check) & (check <= 24))
-}
-
-fn of_pacs_028(check: u64) -> bool
-    requires { check ≤ checks_most }
-    ensures { result ≡ is_in check pacs028_checks }
-{
-    (check == 3) | ((5 <= check) & (check <= 11))
-}
-
-fn of_pacs_002(check: u64) -> bool
-    requires { check ≤ checks_most }
-    ensures { result ≡ is_in check pacs002_checks }
-{
-    (check == 3)
-        | ((5 <= check) & (check <= 7))
-        | ((20 <= check) & (check <= 24))
-        | ((35 <= check) & (check <= 37))
-}
-
-// Whether a slip of either form can say this: a line for each kind and status that go together.
+// Whether a slip of either form can say this: the kinds and statuses that go together, and the checks that may stand with them. Who fails
+// check 1 or 2 gets no slip. The three come apart, as `says_in` takes them.
+#[tactic(auto, unfolding(crate::specs::Meaning::either_says, crate::specs::Meaning::kind_number, crate::specs::Meaning::status_number))]
 fn either_says(kind: u64, status: u64, check: u64) -> bool
     ensures { result ≡ says_in either_says kind status check }
 {
-    if CHECKS_MOST < check {
-        return false;
+    match (kind, status) {
+        (PACS_008 | CAMT_050 | PACS_028, ACCC) => check == 0,
+        (PACS_008 | PACS_028, RJCT) => matches!(check, 3 | 5..=8 | 17 | 20..=34),
+        (CAMT_050, RJCT) => matches!(check, 3..=7 | 12..=24),
+        (PACS_028, PDNG) => matches!(check, 3 | 5..=11),
+        _ => false,
     }
-    let in_pacs_008 = of_pacs_008(check);
-    let in_camt_050 = of_camt_050(check);
-    let in_pacs_028 = of_pacs_028(check);
-    ((kind == PACS_008) & (status == ACCC) & (check == 0))
-        | ((kind == PACS_008) & (status == RJCT) & in_pacs_008)
-        | ((kind == CAMT_050) & (status == ACCC) & (check == 0))
-        | ((kind == CAMT_050) & (status == RJCT) & in_camt_050)
-        | ((kind == PACS_028) & (status == PDNG) & in_pacs_028)
-        | ((kind == PACS_028) & (status == ACCC) & (check == 0))
-        | ((kind == PACS_028) & (status == RJCT) & in_pacs_008)
 }
 
 // Whether a slip of six bytes can say this and one of five bytes cannot.
+#[tactic(auto, unfolding(crate::specs::Meaning::six_alone_says, crate::specs::Meaning::kind_number, crate::specs::Meaning::status_number))]
 fn six_alone_says(kind: u64, status: u64, check: u64) -> bool
     ensures { result ≡ says_in six_alone_says kind status check }
 {
-    if CHECKS_MOST < check {
-        return false;
+    match (kind, status) {
+        (PACS_008, WAITS) | (PACS_002, ACCC) => check == 0,
+        (PACS_028, RJCT) => matches!(check, 36 | 37),
+        (PACS_002, RJCT) => matches!(check, 3 | 5..=7 | 20..=24 | 35..=37),
+        _ => false,
     }
-    let in_pacs_002 = of_pacs_002(check);
-    ((kind == PACS_008) & (status == WAITS) & (check == 0))
-        | ((kind == PACS_028) & (status == RJCT) & ((check == 36) | (check == 37)))
-        | ((kind == PACS_002) & (status == ACCC) & (check == 0))
-        | ((kind == PACS_002) & (status == RJCT) & in_pacs_002)
 }
 
 // Whether a slip of a form can say this.
+#[tactic(auto, using(crate::proofs::Meanings::says_in_six))]
 pub fn can_say(form: Form, kind: u64, status: u64, check: u64) -> bool
     ensures { result ≡ says_in (measures form).sayings kind status check }
 {
@@ -210,51 +170,33 @@ pub fn can_say(form: Form, kind: u64, status: u64, check: u64) -> bool
     }
 }
 
-// The measures in which the forms differ.
-fn seats_in(form: Form) -> u64
-    ensures { result ≡ (measures form).seats }
-{
-    match form {
-        Form::FiveBytes => FIVE_SEATS,
-        Form::SixBytes => SEATS,
-    }
+// The measures in which the forms differ: how many seats they name, the bits of the seat and the zero bits after the values.
+#[derive(Clone, Copy)]
+struct Measures {
+    seats: u64,
+    seat_wide: u64,
+    spare_wide: u64,
 }
 
-fn long_in(form: Form) -> usize
-    ensures { result ≡ (measures form).long }
+const FIVE_BYTES: Measures = Measures {
+    seats: 8,
+    seat_wide: 3,
+    spare_wide: 0,
+};
+
+const SIX_BYTES: Measures = Measures {
+    seats: SEATS,
+    seat_wide: SEAT_WIDE,
+    spare_wide: SPARE_WIDE,
+};
+
+fn measures_of(form: Form) -> Measures
+    ensures { IsMeasured form result }
 {
     match form {
-        Form::FiveBytes => FIVE_LONG,
-        Form::SixBytes => SLIP_LONG,
+        Form::FiveBytes => FIVE_BYTES,
+        Form::SixBytes => SIX_BYTES,
     }
-}
-
-fn seat_wide_in(form: Form) -> u64
-    ensures { result ≡ (measures form).widths.seat }
-{
-    match form {
-        Form::FiveBytes => FIVE_SEAT_WIDE,
-        Form::SixBytes => SEAT_WIDE,
-    }
-}
-
-fn spare_wide_in(form: Form) -> u64
-    ensures { result ≡ (measures form).spare }
-{
-    match form {
-        Form::FiveBytes => FIVE_SPARE_WIDE,
-        Form::SixBytes => SPARE_WIDE,
-    }
-}
-
-// The form that so many bytes are read in.
-fn form_of(long: usize) -> Form
-    ensures { result ≡ form_of long }
-{
-    if long == FIVE_LONG {
-        return Form::FiveBytes;
-    }
-    Form::SixBytes
 }
 
 // Whether the six values are those of a slip of a form.
@@ -262,14 +204,13 @@ pub fn is_slip(form: Form, s: Slip) -> bool
     ensures { result ≡ is_slip_in (measures form) s }
 {
     can_say(form, s.kind, s.status, s.check)
-        & (s.seat <= seats_in(form) - 1)
-        & (1 <= s.opening)
-        & (s.opening <= OPENINGS)
-        & (1 <= s.step)
-        & (s.step <= STEPS)
+        & (s.seat < measures_of(form).seats)
+        & matches!(s.opening, 1..=OPENINGS)
+        & matches!(s.step, 1..=STEPS)
 }
 
 // The bits of a slip of six bytes as one number.
+#[tactic(auto, unfolding(crate::specs::Image::slip_number))]
 fn number_of(s: Slip) -> u64
     requires { Fits six_bytes.widths s }
     ensures { result ≡ slip_number s }
@@ -283,17 +224,17 @@ fn number_of(s: Slip) -> u64
 fn values_in(form: Form, n: u64) -> Slip
     ensures { result ≡ held_in (measures form) n }
 {
-    let seat_wide = seat_wide_in(form);
-    let after_step = spare_wide_in(form);
+    let m = measures_of(form);
+    let after_step = m.spare_wide;
     let after_opening = after_step + STEP_WIDE;
     let after_seat = after_opening + OPENING_WIDE;
-    let after_check = after_seat + seat_wide;
+    let after_check = after_seat + m.seat_wide;
     let after_status = after_check + CHECK_WIDE;
     Slip {
         kind: (n >> (after_status + STATUS_WIDE)) % (1 << KIND_WIDE),
         status: (n >> after_status) % (1 << STATUS_WIDE),
         check: (n >> after_check) % (1 << CHECK_WIDE),
-        seat: (n >> after_seat) % (1 << seat_wide),
+        seat: (n >> after_seat) % (1 << m.seat_wide),
         opening: (n >> after_opening) % (1 << OPENING_WIDE),
         step: (n >> after_step) % (1 << STEP_WIDE),
     }
@@ -303,34 +244,20 @@ fn values_in(form: Form, n: u64) -> Slip
 fn spare_zero(form: Form, n: u64) -> bool
     ensures { result ≡ spare_zero (measures form) n }
 {
-    n % (1 << spare_wide_in(form)) == 0
+    n % (1 << measures_of(form).spare_wide) == 0
 }
 
 // Writes a slip into the first six bytes of the buffer. The bytes after them stay; on a refusal all of them do.
-pub fn write(s: Slip, buffer: &mut [u8]) -> Writing
+pub fn write(s: Slip, buffer: &mut [u8]) -> Result<(), NoSlip>
     ensures value { result ≡ write_answer s buffer.old }
     ensures buffer_after { buffer.new ≡ write_after s buffer.old }
 {
-    if buffer.len() < SLIP_LONG {
-        return Writing::NotWritten;
+    if buffer.len() < SLIP_LONG || !is_slip(Form::SixBytes, s) {
+        return Err(NoSlip);
     }
-    if !is_slip(Form::SixBytes, s) {
-        return Writing::NotWritten;
-    }
-    let n = number_of(s);
-    buffer[0] = ((n >> (5 * BYTE_WIDE)) % BYTE_RANGE) as u8;
-    buffer[1] = ((n >> (4 * BYTE_WIDE)) % BYTE_RANGE) as u8;
-    buffer[2] = ((n >> (3 * BYTE_WIDE)) % BYTE_RANGE) as u8;
-    buffer[3] = ((n >> (2 * BYTE_WIDE)) % BYTE_RANGE) as u8;
-    buffer[4] = ((n >> BYTE_WIDE) % BYTE_RANGE) as u8;
-    buffer[5] = (n % BYTE_RANGE) as u8;
-    Writing::Written
-}
-
-fn wide(b: u8) -> u64
-    ensures { (result ≡ b) × (result < 2 ^ byte_wide) }
-{
-    b as u64
+    let bytes = number_of(s).to_be_bytes();
+    buffer[..SLIP_LONG].copy_from_slice(&bytes[bytes.len() - SLIP_LONG..]);
+    Ok(())
 }
 
 // The bytes of a slip as one number.
@@ -339,26 +266,25 @@ fn number_in(bytes: &[u8]) -> u64
     ensures { result ≡ bytes_number bytes.now }
 {
     let mut n = 0;
-    let mut i = 0;
-    while i < bytes.len() {
-        n = n * BYTE_RANGE + wide(bytes[i]);
-        i += 1;
+    for b in bytes {
+        n = n * BYTE_VALUES + *b as u64;
     }
     n
 }
 
 // Reads a slip: exactly five or exactly six bytes, no bit set after the values, and the values those of a slip of that form.
-pub fn read(bytes: &[u8]) -> Reading
+pub fn read(bytes: &[u8]) -> Result<Slip, NoSlip>
     ensures { result ≡ read_answer bytes.now }
 {
-    let form = form_of(bytes.len());
-    if bytes.len() != long_in(form) {
-        return Reading::NoSlip;
-    }
+    let form = match bytes.len() {
+        FIVE_LONG => Form::FiveBytes,
+        SLIP_LONG => Form::SixBytes,
+        _ => return Err(NoSlip),
+    };
     let n = number_in(bytes);
     let s = values_in(form, n);
     if spare_zero(form, n) & is_slip(form, s) {
-        return Reading::Holds(s);
+        return Ok(s);
     }
-    Reading::NoSlip
+    Err(NoSlip)
 }

@@ -1,13 +1,12 @@
 -- The two stages of a transfer, request 9 of document 02: a pacs.008 waits, and the receiving bank's pacs.002 settles or rejects it. One table of
 -- cases, in the words of `cases`, and one statement over it. Seat 3 is opened first in every case; account 2 of 300001 has 100.00, and the payment is
 -- 50.00. Lack of money is made by an LTK and lifted by a set.
-use Rattle.std.specs.Prelude.{List, [], ◌∷◌, map, true, ◌≡◌, ℕ}
+use Rattle.std.specs.Prelude.{List, [], ◌∷◌, map, true, ◌≡◌, ℕ, Some}
 use Prim.Native.String.{String}
 use Rattle.table.specs.declared.Kind.TheVariants.{Pacs008, Pacs028, Pacs002}
 use Rattle.slip.specs.declared.Status.TheVariants.{Pdng, Accc, Rjct, Waits}
 use Rattle.directory.specs.declared.Participant.{Participant}
 use Rattle.directory.specs.declared.Kind.TheVariants.{Owner}
-use Rattle.seat.specs.declared.settings.Limit.TheVariants.{Of}
 use Rattle.demands.specs.Calls.{set, take_back, read, Call, under, call_room}
 use Rattle.demands.specs.Seats.{Answer}
 use Rattle.cases.specs.Sheets.{payment, pacs002, refusing}
@@ -50,7 +49,7 @@ payee balance = values (0 ∷ balance ∷ 0 ∷ 0 ∷ 0 ∷ 0 ∷ 0 ∷ [])
 
 -- account 2 of 300001 is given this LTK; its LPO stays
 abbrev pub keeps_back : ℕ → Call
-keeps_back ltk = under ticket (set 300001 2 (wish ltk (Of 10000)))
+keeps_back ltk = under ticket (set 300001 2 (wish ltk (Some 10000)))
 
 -- calls with their answers under one directory after the other
 pub record Part : Type 0 where

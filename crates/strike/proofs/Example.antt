@@ -1,8 +1,8 @@
 -- A machine that keeps the laws: two seats that hold lists of numbers. Of nine calls on both, what is left of each seat is computed.
 -- Assumes nothing.
+use Rattle.std.specs.Prelude.{Option, Some, None}
 use mathlib.Core.Path.{◌≡◌, refl, subst}
 use mathlib.Core.List.{List, [], ◌∷◌}
-use mathlib.Core.Option.{Option, none, some}
 use Prim.Native.Nat.{ℕ, zero, suc}
 use native.Mathlib.Omega.{arith}
 use Rattle.strike.specs.Machine.{Deed, quiet, step, back, fresh, Machine, Laws}
@@ -28,8 +28,8 @@ seat (at0 a) = 0
 seat (at1 a) = 1
 
 abbrev newest : List ℕ → Option ℕ
-newest [] = none
-newest (n ∷ p) = some n
+newest [] = None
+newest (n ∷ p) = Some n
 
 abbrev made : Act → List ℕ → List ℕ
 made (add n) p = n ∷ p
@@ -39,15 +39,15 @@ made look p = p
 made clear p = []
 
 abbrev told : Act → List ℕ → Option ℕ
-told (add n) p = none
+told (add n) p = None
 told take_back p = newest p
 told look p = newest p
-told clear p = none
+told clear p = None
 
 abbrev deed_of : Act → Option ℕ → Deed
 deed_of (add n) a = step
-deed_of take_back none = quiet
-deed_of take_back (some n) = back
+deed_of take_back None = quiet
+deed_of take_back (Some n) = back
 deed_of look a = quiet
 deed_of clear a = fresh
 
@@ -68,7 +68,7 @@ machine =
       Answer = Option ℕ;
       Part = List ℕ;
       new = ([], []);
-      seat_of = λ c. some (seat c);
+      seat_of = λ c. Some (seat c);
       after = behind;
       answer = λ c r. told (act_of c) (part_of (seat c) r);
       part = part_of;
@@ -81,7 +81,7 @@ own-part : (c : Call) (r : List ℕ × List ℕ) → part_of (seat c) (behind c 
 own-part (at0 a) r = refl
 own-part (at1 a) r = refl
 
-other-part : (c : Call) (k : ℕ) (r : List ℕ × List ℕ) → (some (seat c) ≡ some k → ⊥) → part_of k (behind c r) ≡ part_of k r
+other-part : (c : Call) (k : ℕ) (r : List ℕ × List ℕ) → (Some (seat c) ≡ Some k → ⊥) → part_of k (behind c r) ≡ part_of k r
 other-part (at0 a) zero r ne = absurd (ne refl)
 other-part (at0 a) (suc zero) r ne = refl
 other-part (at0 a) (suc (suc k)) r ne = refl
@@ -129,7 +129,7 @@ step-and-back a b p e f =
     let d : (n : ℕ) × (made a p ≡ n ∷ made b (made a p)) = back-drops b (made a p) f in
     cc
 
-same-seat : (c : Call) (k : ℕ) → ◌≡◌ {A = Option ℕ} (some (seat c)) (some k) → seat c ≡ k
+same-seat : (c : Call) (k : ℕ) → ◌≡◌ {A = Option ℕ} (Some (seat c)) (Some k) → seat c ≡ k
 same-seat c k e = cc
 
 pub laws : Laws machine
@@ -160,11 +160,11 @@ abbrev pub nine : List Call
 nine =
     at0 (add 5) ∷ at1 (add 9) ∷ at0 look ∷ at0 (add 7) ∷ at1 take_back ∷ at0 look ∷ at0 take_back ∷ at1 take_back ∷ at0 (add 8) ∷ []
 
-pub left-of-seat-0 : left machine 0 (events machine nine ([], [])) ≡ (at0 (add 5), none) ∷ (at0 look, some 5) ∷ (at0 (add 8), none) ∷ []
+pub left-of-seat-0 : left machine 0 (events machine nine ([], [])) ≡ (at0 (add 5), None) ∷ (at0 look, Some 5) ∷ (at0 (add 8), None) ∷ []
 unfolding left left_from before_step own_events events
 left-of-seat-0 = refl
 
-pub left-of-seat-1 : left machine 1 (events machine nine ([], [])) ≡ (at1 take_back, none) ∷ []
+pub left-of-seat-1 : left machine 1 (events machine nine ([], [])) ≡ (at1 take_back, None) ∷ []
 unfolding left left_from before_step own_events events
 left-of-seat-1 = refl
 

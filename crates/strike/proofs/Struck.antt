@@ -1,10 +1,10 @@
 -- Demand 3 holds of every machine that keeps the laws: the calls that are left lead a seat from its new part to the part that it has,
 -- since a take-back gives back the part before the newest step left, and only quiet calls stand between the two.
 -- Assumes nothing.
+use Rattle.std.specs.Prelude.{Option, Some, None}
 use mathlib.Core.Path.{◌≡◌, refl, sym, ap, ◌∙◌}
 use mathlib.Core.Bool.{Bool, true, false}
 use mathlib.Core.List.{List, [], ◌∷◌, ◌++◌}
-use mathlib.Core.Option.{Option, none, some}
 use Prim.Native.Nat.{ℕ}
 use native.Mathlib.Omega.{arith}
 use borrow.Author.Tests.{eqb-true, eq-eqb}
@@ -15,7 +15,7 @@ use Rattle.strike.specs.Strike.{Struck, Demand3}
 -- these calls of a seat, the newest first, lead its new part to this part; each has its answer there, and none took a step back
 data Leads (M : Machine) (k : ℕ) : List (Event M) → M.Part → Type 0 where
   at_first : Leads M k [] (M.part k M.new)
-  one_more : {older : List (Event M)} {q : M.Part} (c : M.Call) → Leads M k older q → M.seat_of c ≡ some k
+  one_more : {older : List (Event M)} {q : M.Part} (c : M.Call) → Leads M k older q → M.seat_of c ≡ Some k
       → (M.deed c (M.answered c q) ≡ back → ⊥) → Leads M k ((c, M.answered c q) ∷ older) (M.own c q)
 
 no_step : step ≡ back → ⊥
@@ -28,13 +28,13 @@ no-fresh : fresh ≡ back → ⊥
 no-fresh e = let z : ◌≡◌ {A = ℕ} 0 1 = cc in omega arith
 
 -- the test for a call's seat holds of the chosen seat alone
-own-seat : (M : Machine) (k : ℕ) (o : Option ℕ) → is_for M k o ≡ true → o ≡ some k
-own-seat M k none e = absurd (let z : ◌≡◌ {A = ℕ} 0 1 = cc in omega arith)
-own-seat M k (some seat) e = ap {B = Option ℕ} some (eqb-true seat k e)
+own-seat : (M : Machine) (k : ℕ) (o : Option ℕ) → is_for M k o ≡ true → o ≡ Some k
+own-seat M k None e = absurd (let z : ◌≡◌ {A = ℕ} 0 1 = cc in omega arith)
+own-seat M k (Some seat) e = ap {B = Option ℕ} Some (eqb-true seat k e)
 
-other-seat : (M : Machine) (k : ℕ) (o : Option ℕ) → is_for M k o ≡ false → o ≡ some k → ⊥
-other-seat M k none e f = let z : ◌≡◌ {A = ℕ} 0 1 = cc in omega arith
-other-seat M k (some seat) e f =
+other-seat : (M : Machine) (k : ℕ) (o : Option ℕ) → is_for M k o ≡ false → o ≡ Some k → ⊥
+other-seat M k None e f = let z : ◌≡◌ {A = ℕ} 0 1 = cc in omega arith
+other-seat M k (Some seat) e f =
     let same : seat ≡ k = cc in
     let z : ◌≡◌ {A = ℕ} 0 1 = cc (eq-eqb seat k same) in
     omega arith
@@ -45,7 +45,7 @@ module _ (M : Machine) (L : Laws M) (k : ℕ) where
   leads-sound (one_more {q = q} c leads for-k kept) = L.keeps-sound c k q (leads-sound leads) for-k
 
   -- a take-back: what stands in front of the newest step leads to the part that the take-back leaves
-  back-leads : {older : List (Event M)} {p : M.Part} → Leads M k older p → (b : M.Call) → M.seat_of b ≡ some k
+  back-leads : {older : List (Event M)} {p : M.Part} → Leads M k older p → (b : M.Call) → M.seat_of b ≡ Some k
       → M.deed b (M.answered b p) ≡ back → Leads M k (before_step M older) (M.own b p)
   unfolding before_step
   back-leads at_first b for-b took = absurd (L.none-in-new b k for-b took)
@@ -63,7 +63,7 @@ module _ (M : Machine) (L : Laws M) (k : ℕ) where
       go fresh e rest = absurd (L.none-after-fresh c b k q (leads-sound leads) for-k for-b e took)
 
   -- one call more for the seat
-  struck-leads : {older : List (Event M)} {p : M.Part} → Leads M k older p → (c : M.Call) → M.seat_of c ≡ some k
+  struck-leads : {older : List (Event M)} {p : M.Part} → Leads M k older p → (c : M.Call) → M.seat_of c ≡ Some k
       → Leads M k (struck M (M.deed c (M.answered c p)) (c, M.answered c p) older) (M.own c p)
   struck-leads {older} {p} leads c for-k = go (M.deed c (M.answered c p)) refl
     where
@@ -81,7 +81,7 @@ module _ (M : Machine) (L : Laws M) (k : ℕ) where
   all-lead (c ∷ calls) r older fit leads =
       go (is_for M k (M.seat_of c)) refl (λ (older : List (Event M)). all-lead calls (M.after c r) older (L.keeps-fit c r fit))
     where
-      here : M.seat_of c ≡ some k
+      here : M.seat_of c ≡ Some k
           → Leads M k (struck M (M.deed c (M.answer c r)) (c, M.answer c r) older) (M.part k (M.after c r))
       here for-k = rw (L.by-own c k r fit for-k, L.by-answered c k r fit for-k) (struck-leads leads c for-k)
 
@@ -128,7 +128,7 @@ module _ (M : Machine) (L : Laws M) (k : ℕ) where
   abbrev Run : List (Event M) → M.Part → Type 0
   Run es p = (events M (calls_of M es) M.new ≡ es) × (M.part k (after_all M (calls_of M es) M.new) ≡ p)
 
-  run_more : (es : List (Event M)) (q : M.Part) (c : M.Call) → M.seat_of c ≡ some k → Run es q
+  run_more : (es : List (Event M)) (q : M.Part) (c : M.Call) → M.seat_of c ≡ Some k → Run es q
       → Run (es ++ ((c, M.answered c q) ∷ [])) (M.own c q)
   run_more es q c for-k run =
       let room : M.Room = after_all M (calls_of M es) M.new in

@@ -1,8 +1,7 @@
 -- Demand 3 of document 01, over any machine: for any list of calls on any seats, from a new room, and any chosen seat, strike out all calls for
 -- other seats, then each successful take-back with the step it took back and every call between them. Run from a new room, the calls left give
 -- that seat the same stored numbers and each of them its same answer and slip.
-use Rattle.std.specs.Prelude.{◌≡◌, Bool, true, false, cond, List, [], ◌∷◌, ◌++◌, map, ℕ, eqb}
-use Rattle.std.proofs.Math.Option.{Option, none, some}
+use Rattle.std.specs.Prelude.{◌≡◌, Bool, true, false, cond, List, [], ◌∷◌, ◌++◌, map, ℕ, eqb, Option, Some, None}
 use Rattle.strike.specs.Machine.{Deed, quiet, step, back, fresh, Machine, Laws}
 
 module _ (M : Machine) where
@@ -20,8 +19,8 @@ module _ (M : Machine) where
   events (c ∷ calls) r = (c, M.answer c r) ∷ events calls (M.after c r)
 
   abbrev pub is_for : ℕ → Option ℕ → Bool
-  is_for k none = false
-  is_for k (some seat) = eqb seat k
+  is_for k None = false
+  is_for k (Some seat) = eqb seat k
 
   -- what is left when all calls for other seats are struck out, and those that name none
   unfoldable pub own_events : ℕ → List Event → List Event

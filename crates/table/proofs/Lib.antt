@@ -1,4 +1,3 @@
 pub mod Lines
-pub mod Ranges
 pub mod Rules
 pub mod Settled

@@ -1,18 +1,18 @@
--- The lines of the table: each has twelve bytes, so that its columns are where they are read.
+-- What holds of each entry of a list, and when a number is in one.
 -- Assumes nothing.
-use mathlib.Core.Path.{◌≡◌, refl, sym, ap, ◌∙◌}
-use mathlib.Core.Bool.{Bool, true, false, ◌&&◌, cond}
+use mathlib.Core.Path.{◌≡◌, refl, sym, ◌∙◌}
+use mathlib.Core.Bool.{Bool, true, false, false≢true}
 use mathlib.Core.List.{List, [], ◌∷◌}
-use Prim.Native.Nat.{ℕ, zero, suc, ◌-◌, ◌<◌, ◌≤◌}
+use Prim.Native.Nat.{ℕ, zero, suc, ◌<◌}
 use native.Mathlib.Omega.{arith}
 use native.Mathlib.Nat.{le_of_suc-le-suc}
 use lib.Dec.{eqb}
-use lib.ListN.{length, get_or, take, drop}
-use borrow.Author.Tests.{eqb-true}
+use lib.ListN.{length, get_or}
+use borrow.Author.Tests.{eqb-true, eq-eqb, ne_eqb}
 use Rattle.shape.specs.Bytes.{every}
 use Rattle.shape.proofs.Tests.{and_left, and_right}
-use Rattle.shape.proofs.Places.{bytes_whole}
-use Rattle.table.specs.Checks.{checks, blank, line_of, sep_in, iso_in}
+use Rattle.std.specs.List.{list_any}
+use Rattle.table.specs.Checks.{is_in}
 
 -- a rule that holds of the default and, by a test, of each entry holds at every place
 pub each : {A : Type 0} (f : A → Bool) (xs : List A) (d : A) → f d ≡ true → every f xs ≡ true → (k : ℕ) → f (get_or xs k d) ≡ true
@@ -26,22 +26,11 @@ get_d_any [] k d e h = absurd (omega arith)
 get_d_any (x ∷ xs) zero d e h = refl
 get_d_any (x ∷ xs) (suc k) d e h = get_d_any xs k d e (le_of_suc-le-suc h)
 
-is-long : List ℕ → Bool
-is-long line = eqb (length line) 12
+agree : (t : Bool) (a b : ℕ) → eqb a b ≡ t → t ≡ eqb b a
+agree true a b e = sym (eq-eqb b a (sym (eqb-true a b e)))
+agree false a b e = sym (ne_eqb b a (λ h. false≢true (sym e ∙ eq-eqb a b (sym h))))
 
-chosen : (t : Bool) (a b : List ℕ) → length a ≡ 12 → length b ≡ 12 → length (cond t a b) ≡ 12
-chosen true a b p q = p
-chosen false a b p q = q
-
-pub line-length : (n : ℕ) → length (line_of n) ≡ 12
-unfolding line_of checks is-long
-line-length n =
-    chosen (eqb n 0) blank (get_or checks (n - 1) blank) refl
-    (eqb-true (length (get_or checks (n - 1) blank)) 12 (each is-long checks blank refl refl (n - 1)))
-
--- the columns of a line, byte by byte
-pub last-four : (line : List ℕ) → length line ≡ 12 → (get_or line 8 0 ∷ get_or line 9 0 ∷ get_or line 10 0 ∷ get_or line 11 0 ∷ []) ≡ iso_in line
-last-four line e = ap (drop 8) (bytes_whole line 12 e)
-
-pub middle-four : (line : List ℕ) → length line ≡ 12 → (get_or line 3 0 ∷ get_or line 4 0 ∷ get_or line 5 0 ∷ get_or line 6 0 ∷ []) ≡ sep_in line
-middle-four line e = ap (λ (s : List ℕ). take 4 (drop 3 s)) (bytes_whole line 12 e)
+-- a number is in a list where an entry of the list equals it
+pub is-in-any : (n : ℕ) (ks : List ℕ) → list_any (λ k. eqb k n) ks ≡ is_in n ks
+is-in-any n [] = refl
+is-in-any n (k ∷ ks) = cc (agree (eqb k n) k n refl, is-in-any n ks)

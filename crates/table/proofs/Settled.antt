@@ -1,14 +1,14 @@
 -- The contract of each public function settles its answer: no second one satisfies it.
 -- Assumes nothing.
-use Rattle.shape.proofs.Single.{Settled, by-equation}
+use mathlib.Core.List.{List}
+use Prim.Native.Nat.{ℕ}
+use Rattle.shape.proofs.Single.{Settled, SettledShown, by-equation}
 use Rattle.table.proofs.sep_code.Reads as sep-code-reads
 use Rattle.table.proofs.sep_code.Kinds as sep-code-kinds
 use Rattle.table.proofs.iso_code.Reads as iso-code-reads
 use Rattle.table.proofs.iso_code.Kinds as iso-code-kinds
-use Rattle.table.proofs.order_length.Reads as order-length-reads
-use Rattle.table.proofs.order_length.Kinds as order-length-kinds
-use Rattle.table.proofs.order_at.Reads as order-at-reads
-use Rattle.table.proofs.order_at.Kinds as order-at-kinds
+use Rattle.table.proofs.order_of.Reads as order-of-reads
+use Rattle.table.proofs.order_of.Kinds as order-of-kinds
 use Rattle.table.proofs.in_order.Reads as in-order-reads
 use Rattle.table.proofs.in_order.Kinds as in-order-kinds
 use Rattle.table.proofs.is_rejecting.Reads as is-rejecting-reads
@@ -20,11 +20,8 @@ sep-code κs a x y e f = by-equation
 pub iso-code : Settled 0 iso-code-kinds.ps iso-code-kinds.r iso-code-reads.Post
 iso-code κs a x y e f = by-equation
 
-pub order-length : Settled 0 order-length-kinds.ps order-length-kinds.r order-length-reads.Post
-order-length κs a x y e f = by-equation
-
-pub order-at : Settled 0 order-at-kinds.ps order-at-kinds.r order-at-reads.Post
-order-at κs a x y e f = by-equation
+pub order-of : SettledShown 1 order-of-kinds.ps order-of-kinds.r order-of-reads.Post (List ℕ) (λ κs x. x.now)
+order-of κs a x y e f = by-equation
 
 pub in_order : Settled 0 in-order-kinds.ps in-order-kinds.r in-order-reads.Post
 in_order κs a x y e f = by-equation

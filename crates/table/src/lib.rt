@@ -2,12 +2,13 @@
 // request 9 of document 02. It knows nothing of when a check fails. The definitions stand in `specs/Checks.antt`; docs/CHECKS.md says what each check means.
 #![tactic(auto)]
 
-ghost use Rattle.std.specs.Prelude.{◌≡◌, [], ◌<◌, ◌≤◌, length, get_or};
-ghost use Rattle.table.specs.declared.Kind.TheVariants.{Pacs008, Camt050, Pacs028, Pacs002};
-ghost use Rattle.table.specs.Checks.{checks_most, checks, line_of, sep_of, iso_of, rejecting, order_of, is_in, runs};
+mod names;
+
+ghost use Rattle.std.specs.Prelude.{◌≡◌};
+ghost use Rattle.table.specs.Checks.{line_of, sep_of, iso_of, rejecting, order_of, is_in, runs};
 
 // The kinds of messages.
-#[derive(Clone, Copy)]
+#[derive(Clone, Copy, Debug, PartialEq, Eq)]
 pub enum Kind {
     Pacs008,
     Camt050,
@@ -15,14 +16,17 @@ pub enum Kind {
     Pacs002,
 }
 
-// Four blanks: a code that there is none of.
+// Four blanks: a code that there is none of, as the definitions `iso_of` and `sep_of` have it.
 pub const ABSENT: [u8; 4] = *b"    ";
+
+// The line of a number that is no check's.
+const BLANK: [u8; 12] = *b"            ";
 
 // How many checks there are, numbered from 1 on.
 pub const CHECKS_MOST: u64 = 37;
 
 // All checks, a line for each: number, SEP code, ISO code or blanks.
-const CHECKS: [[u8; 12]; CHECKS_MOST as usize] = [
+static CHECKS: [[u8; 12]; CHECKS_MOST as usize] = [
     *b"01 TE03 AGNT",
     *b"02 TE04 AGNT",
     *b"03 TE07 AGNT",
@@ -62,40 +66,32 @@ const CHECKS: [[u8; 12]; CHECKS_MOST as usize] = [
     *b"37 X004 NARR",
 ];
 
-// The orders. They are written out anew wherever one is looked up, so they are bytes.
-const PACS_008: [u8; 18] = [
+// The orders.
+static PACS_008: [u64; 18] = [
     1, 2, 3, 5, 6, 7, 8, 17, 25, 27, 26, 28, 29, 30, 31, 32, 33, 34,
 ];
 
-const CAMT_050: [u8; 20] = [
+static CAMT_050: [u64; 20] = [
     1, 2, 3, 4, 5, 7, 12, 13, 14, 15, 16, 6, 17, 18, 19, 20, 21, 22, 23, 24,
 ];
 
-const PACS_028: [u8; 10] = [1, 2, 3, 5, 6, 7, 8, 9, 10, 11];
+static PACS_028: [u64; 10] = [1, 2, 3, 5, 6, 7, 8, 9, 10, 11];
 
-const PACS_002: [u8; 14] = [1, 2, 3, 5, 6, 7, 35, 36, 37, 20, 21, 22, 23, 24];
-
-fn line_at(place: usize) -> [u8; 12]
-    requires { place < checks_most }
-    ensures { result ≡ get_or checks place [] }
-{
-    CHECKS[place]
-}
+static PACS_002: [u64; 14] = [1, 2, 3, 5, 6, 7, 35, 36, 37, 20, 21, 22, 23, 24];
 
 // The line of a check, blank for a number that is no check's.
+#[tactic(auto, unfolding(crate::specs::Checks::checks, crate::specs::Checks::line_of))]
 fn line(number: u64) -> [u8; 12]
     ensures { result ≡ line_of number }
 {
-    if number == 0 {
-        return *b"            ";
+    match number {
+        0 => BLANK,
+        _ => CHECKS.get((number - 1) as usize).copied().unwrap_or(BLANK),
     }
-    if CHECKS_MOST < number {
-        return *b"            ";
-    }
-    line_at((number - 1) as usize)
 }
 
 // The SEP code of a check.
+#[tactic(auto, unfolding(crate::specs::Checks::sep_of))]
 pub fn sep_code(number: u64) -> [u8; 4]
     ensures { result ≡ sep_of number }
 {
@@ -104,109 +100,40 @@ pub fn sep_code(number: u64) -> [u8; 4]
 }
 
 // The ISO code that goes with a check in the answer to a message of a kind.
+#[tactic(auto, unfolding(crate::specs::Checks::iso_of))]
 pub fn iso_code(kind: Kind, number: u64) -> [u8; 4]
     ensures { result ≡ iso_of kind number }
 {
+    if kind == Kind::Camt050 {
+        return ABSENT;
+    }
     let l = line(number);
-    let code = [l[8], l[9], l[10], l[11]];
-    match kind {
-        Kind::Camt050 => ABSENT,
-        Kind::Pacs008 => code,
-        Kind::Pacs028 => code,
-        Kind::Pacs002 => code,
-    }
+    [l[8], l[9], l[10], l[11]]
 }
 
-// How many checks a kind has.
-pub fn order_length(kind: Kind) -> usize
-    ensures { result ≡ length (order_of kind) }
+// The checks of a kind, in the order in which they run.
+#[tactic(auto, unfolding(crate::specs::Checks::order_of))]
+pub fn order_of(kind: Kind) -> &'static [u64]
+    ensures { result.now ≡ order_of kind }
 {
     match kind {
-        Kind::Pacs008 => 18,
-        Kind::Camt050 => 20,
-        Kind::Pacs028 => 10,
-        Kind::Pacs002 => 14,
+        Kind::Pacs008 => &PACS_008,
+        Kind::Camt050 => &CAMT_050,
+        Kind::Pacs028 => &PACS_028,
+        Kind::Pacs002 => &PACS_002,
     }
-}
-
-// The number at a place, 0 past the end.
-fn entry(order: &[u8], place: usize) -> u64
-    ensures { result ≡ get_or order.now place 0 }
-{
-    if place < order.len() {
-        return order[place] as u64;
-    }
-    0
-}
-
-// The check at a place of a kind's order, 0 past its end.
-pub fn order_at(kind: Kind, place: usize) -> u64
-    ensures { result ≡ get_or (order_of kind) place 0 }
-{
-    match kind {
-        Kind::Pacs008 => entry(&PACS_008, place),
-        Kind::Camt050 => entry(&CAMT_050, place),
-        Kind::Pacs028 => entry(&PACS_028, place),
-        Kind::Pacs002 => entry(&PACS_002, place),
-    }
-}
-
-// Whether a number up to that of the last check is among the checks of a kind.
-fn in_pacs_008(number: u64) -> bool
-    requires { number ≤ checks_most }
-    ensures { result ≡ runs Pacs008 number }
-{
-    ((1 <= number) & (number <= 3))
-        | ((5 <= number) & (number <= 8))
-        | (number == 17)
-        | ((25 <= number) & (number <= 34))
-}
-
-fn in_camt_050(number: u64) -> bool
-    requires { number ≤ checks_most }
-    ensures { result ≡ runs Camt050 number }
-{
-    ((1 <= number) & (number <= 7)) | ((12 <= number) & (number <= 24))
-}
-
-fn in_pacs_028(number: u64) -> bool
-    requires { number ≤ checks_most }
-    ensures { result ≡ runs Pacs028 number }
-{
-    ((1 <= number) & (number <= 3)) | ((5 <= number) & (number <= 11))
-}
-
-fn in_pacs_002(number: u64) -> bool
-    requires { number ≤ checks_most }
-    ensures { result ≡ runs Pacs002 number }
-{
-    ((1 <= number) & (number <= 3))
-        | ((5 <= number) & (number <= 7))
-        | ((20 <= number) & (number <= 24))
-        | (35 <= number)
 }
 
 // Whether a transfer is rejected where its answer fails by this check.
 pub fn is_rejecting(number: u64) -> bool
     ensures { result ≡ is_in number rejecting }
 {
-    if CHECKS_MOST < number {
-        return false;
-    }
-    ((20 <= number) & (number <= 24)) | (number == 36) | (number == 37)
+    matches!(number, 20..=24 | 36 | 37)
 }
 
 // Whether a check is one of a kind's.
 pub fn in_order(kind: Kind, number: u64) -> bool
     ensures { result ≡ runs kind number }
 {
-    if CHECKS_MOST < number {
-        return false;
-    }
-    match kind {
-        Kind::Pacs008 => in_pacs_008(number),
-        Kind::Camt050 => in_camt_050(number),
-        Kind::Pacs028 => in_pacs_028(number),
-        Kind::Pacs002 => in_pacs_002(number),
-    }
+    order_of(kind).contains(&number)
 }

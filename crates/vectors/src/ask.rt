@@ -1,50 +1,49 @@
 // What is asked of shape, remainder and table.
-use crate::words::number;
-use remainder::Mod97;
 use shape::field::{Account, System};
 use shape::stored::Identifier;
-use shape::value::Value;
 use std::io;
 use table::Kind;
+
+// A number above this one takes no digit more.
+const NUMBER_MOST: u64 = 100_000_000_000_000_000;
+
+// The number that digits write, for numbers that stay below the width. Reading ends at a byte below the digits: `number` of drill goes on after
+// it, and stops at the highest number, so that one function would print otherwise.
+pub fn number(s: &[u8]) -> u64 {
+    let mut n: u64 = 0;
+    for digit in s {
+        if (*digit < b'0') | (NUMBER_MOST < n) {
+            return n;
+        }
+        n = n * 10 + (*digit - b'0') as u64;
+    }
+    n
+}
 
 pub fn put_number(rt: &impl Print, n: u64) -> io::Result<()> {
     print!(rt; " {n}")
 }
 
-pub fn put_value(rt: &impl Print, v: Value) -> io::Result<()> {
+pub fn put_value(rt: &impl Print, v: Option<u64>) -> io::Result<()> {
     match v {
-        Value::Of(n) => put_number(rt, n),
-        Value::None => print!(rt; " none"),
+        Some(n) => put_number(rt, n),
+        None => print!(rt; " none"),
     }
 }
 
-fn put_test(rt: &impl Print, holds: bool) -> io::Result<()> {
-    if holds {
-        print!(rt; " yes")
-    } else {
-        print!(rt; " no")
-    }
+pub fn put_test(rt: &impl Print, holds: bool) -> io::Result<()> {
+    print!(rt; "{}", if holds { " yes" } else { " no" })
 }
 
-// An IBAN's remainder, a code, a date with the day before, a time, an amount, a currency.
-pub fn numbers(rt: &impl Print, word: &[u8], text: &[u8]) -> io::Result<()> {
-    match word {
-        b"iban" => iban(rt, text),
-        b"code" => put_value(rt, shape::field::code_of(text)),
-        b"date" => date(rt, number(text)),
-        b"time" => put_value(rt, shape::date::time_of(text)),
-        b"amount" => put_value(rt, shape::field::amount_of(text)),
-        b"currency" => put_value(rt, shape::field::currency_of(text)),
-        _ => Ok(()),
-    }
-}
-
-fn iban(rt: &impl Print, text: &[u8]) -> io::Result<()> {
-    put_remainder(rt, remainder::remainder(text))?;
+// An IBAN's remainder, and whether it is one.
+pub fn iban(rt: &impl Print, text: &[u8]) -> io::Result<()> {
+    put_value(rt, remainder::remainder(text))?;
     put_test(rt, shape::field::is_iban(text))
 }
 
-fn date(rt: &impl Print, n: u64) -> io::Result<()> {
+// Whether a number is a date, and the day before it.
+pub fn date(rt: &impl Print, text: &[u8]) -> io::Result<()> {
+    let n = number(text);
     put_test(rt, shape::date::is_date(n))?;
     put_value(rt, shape::date::day_before(n))
 }
@@ -55,13 +54,6 @@ pub fn put_account(rt: &impl Print, account: Account) -> io::Result<()> {
     put_number(rt, account.currency)
 }
 
-pub fn put_remainder(rt: &impl Print, iban: Mod97) -> io::Result<()> {
-    match iban {
-        Mod97::Of(n) => put_number(rt, n),
-        Mod97::NoIban => print!(rt; " none"),
-    }
-}
-
 pub fn put_system(rt: &impl Print, system: System) -> io::Result<()> {
     match system {
         System::Sep => print!(rt; " SEP"),
@@ -70,20 +62,7 @@ pub fn put_system(rt: &impl Print, system: System) -> io::Result<()> {
     }
 }
 
-// A UETR and an identifier in their stored form, an account, a message identifier, S, the name of a message.
-pub fn identifiers(rt: &impl Print, word: &[u8], text: &[u8]) -> io::Result<()> {
-    match word {
-        b"uetr" => uetr(rt, text),
-        b"identifier" => put_stored(rt, shape::stored::identifier_of(text)),
-        b"account" => put_account(rt, shape::field::account_of(text)),
-        b"message" => put_value(rt, shape::field::message_code_of(text)),
-        b"system" => put_system(rt, shape::field::system_of(text)),
-        b"original" => put_test(rt, shape::field::names_pacs_008(text)),
-        _ => Ok(()),
-    }
-}
-
-fn uetr(rt: &impl Print, text: &[u8]) -> io::Result<()> {
+pub fn uetr(rt: &impl Print, text: &[u8]) -> io::Result<()> {
     put_test(rt, shape::stored::is_uetr(text))?;
     put_uetr(rt, shape::stored::uetr_of(text))
 }
@@ -99,17 +78,9 @@ pub fn put_stored(rt: &impl Print, i: Identifier) -> io::Result<()> {
     print!(rt; " {:014x} {:014x}", i.fourth, i.fifth)
 }
 
-// The codes of a check, and the order of a kind.
-pub fn codes(rt: &impl Print, word: &[u8], text: &[u8]) -> io::Result<()> {
-    match word {
-        b"check" => codes_of(rt, number(text)),
-        b"order" => order_named(rt, text),
-        _ => Ok(()),
-    }
-}
-
 // Both codes of a check.
-fn codes_of(rt: &impl Print, n: u64) -> io::Result<()> {
+pub fn codes(rt: &impl Print, text: &[u8]) -> io::Result<()> {
+    let n = number(text);
     print!(rt; " ")?;
     rt.write_all(&table::sep_code(n))?;
     print!(rt; " ")?;
@@ -117,7 +88,7 @@ fn codes_of(rt: &impl Print, n: u64) -> io::Result<()> {
 }
 
 // The order of the kind of that name, or nothing where there is none.
-fn order_named(rt: &impl Print, name: &[u8]) -> io::Result<()> {
+pub fn order_named(rt: &impl Print, name: &[u8]) -> io::Result<()> {
     match name {
         b"pacs.008" => order(rt, Kind::Pacs008),
         b"camt.050" => order(rt, Kind::Camt050),
@@ -128,8 +99,8 @@ fn order_named(rt: &impl Print, name: &[u8]) -> io::Result<()> {
 }
 
 fn order(rt: &impl Print, kind: Kind) -> io::Result<()> {
-    for place in 0..table::order_length(kind) {
-        put_number(rt, table::order_at(kind, place))?;
+    for number in table::order_of(kind) {
+        put_number(rt, *number)?;
     }
     Ok(())
 }

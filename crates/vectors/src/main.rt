@@ -7,41 +7,47 @@ mod ask;
 mod messages;
 mod sheets;
 mod slips;
-mod words;
 
-use input::read_full;
+use input::{buffer, read_text};
 use std::io;
-use words::{line_end, part, word_end};
+use text::{cut, lines};
 
 // How many bytes of vectors are read.
 const VECTORS_MOST: usize = 524288;
 
-fn answer(rt: &impl Print, line: &[u8]) -> io::Result<()> {
-    rt.write_all(line)?;
-    let end = word_end(line, 0);
-    let word = part(line, 0, end);
-    let text = part(line, end + 1, line.len());
-    ask::numbers(rt, word, text)?;
-    ask::identifiers(rt, word, text)?;
-    ask::codes(rt, word, text)?;
-    slips::ask(rt, word, text)?;
-    sheets::ask(rt, word, text)?;
-    messages::ask(rt, word, text)?;
-    println!(rt; "")
-}
-
-fn answer_all(rt: &impl Print, s: &[u8]) -> io::Result<()> {
-    let mut from = 0;
-    while from < s.len() {
-        let to = line_end(s, from);
-        answer(rt, part(s, from, to))?;
-        from = to + 1;
+// The answer to what a word asks of a text. Other words ask nothing.
+fn answer(rt: &impl Print, word: &[u8], text: &[u8]) -> io::Result<()> {
+    match word {
+        b"iban" => ask::iban(rt, text),
+        b"code" => ask::put_value(rt, shape::field::code_of(text)),
+        b"date" => ask::date(rt, text),
+        b"time" => ask::put_value(rt, shape::date::time_of(text)),
+        b"amount" => ask::put_value(rt, shape::field::amount_of(text)),
+        b"currency" => ask::put_value(rt, shape::field::currency_of(text)),
+        b"uetr" => ask::uetr(rt, text),
+        b"identifier" => ask::put_stored(rt, shape::stored::identifier_of(text)),
+        b"account" => ask::put_account(rt, shape::field::account_of(text)),
+        b"message" => ask::put_value(rt, shape::field::message_code_of(text)),
+        b"system" => ask::put_system(rt, shape::field::system_of(text)),
+        b"original" => ask::put_test(rt, shape::field::names_pacs_008(text)),
+        b"check" => ask::codes(rt, text),
+        b"order" => ask::order_named(rt, text),
+        b"write" => slips::write(rt, text),
+        b"read" => slips::read(rt, text),
+        b"sheet" => sheets::read(rt, text),
+        b"list" => sheets::list(rt, text),
+        b"receive" => messages::receive(rt, text),
+        _ => Ok(()),
     }
-    Ok(())
 }
 
 fn main(rt: HostRuntime) -> io::Result<()> {
-    let mut buffer = [0u8; VECTORS_MOST];
-    let n = read_full(&mut rt.stdin(), &mut buffer)?;
-    answer_all(&rt, &buffer[..n])
+    let mut buffer = buffer::<VECTORS_MOST>();
+    for line in lines(read_text(&mut rt.stdin(), &mut buffer)?) {
+        let (word, text) = cut(line, b' ');
+        rt.write_all(line)?;
+        answer(&rt, word, text)?;
+        println!(rt; "")?;
+    }
+    Ok(())
 }

@@ -7,13 +7,13 @@ use Rattle.damvurit.proofs.damvurit_open.Goals as goal
 
 pub result_of-requires : goal.result_of-requires
 result_of-requires c =
-    let called = open-called c.args.dir.now c.gather_flat-g.result c.gather_flat-g.ensures c.open_among-answer.result c.args.seat c.args.sums.now
+    let called = open-called c.args.dir.now c.gather_flat.result c.gather_flat.ensures c.open_among-answer.result c.args.seat c.args.sums.now
     c.args.room.now c.open_among-answer.new.room (c.open_among-answer.ensures.result_value, c.open_among-answer.ensures.room_after) in
     plain c.open_among-answer.result _ called.0 (open_plain (flat_directory c.args.dir.now) c.args.seat c.args.sums.now c.args.room.now)
 
 pub overflow_mul-result : goal.overflow_mul-result
 overflow_mul-result c =
-    let called = open-called c.args.dir.now c.gather_flat-g.result c.gather_flat-g.ensures c.open_among-answer.result c.args.seat c.args.sums.now
+    let called = open-called c.args.dir.now c.gather_flat.result c.gather_flat.ensures c.open_among-answer.result c.args.seat c.args.sums.now
     c.args.room.now c.open_among-answer.new.room (c.open_among-answer.ensures.result_value, c.open_among-answer.ensures.room_after) in
     let few = opening-few c.open_among-answer.result _ called.0
     (open_plain (flat_directory c.args.dir.now) c.args.seat c.args.sums.now c.args.room.now)
@@ -23,7 +23,7 @@ overflow_mul-result c =
 
 pub overflow_add-result : goal.overflow_add-result
 overflow_add-result c =
-    let called = open-called c.args.dir.now c.gather_flat-g.result c.gather_flat-g.ensures c.open_among-answer.result c.args.seat c.args.sums.now
+    let called = open-called c.args.dir.now c.gather_flat.result c.gather_flat.ensures c.open_among-answer.result c.args.seat c.args.sums.now
     c.args.room.now c.open_among-answer.new.room (c.open_among-answer.ensures.result_value, c.open_among-answer.ensures.room_after) in
     let none = open_plain (flat_directory c.args.dir.now) c.args.seat c.args.sums.now c.args.room.now in
     let told = opening-told (flat_directory c.args.dir.now) c.args.seat c.args.sums.now c.args.room.now in
@@ -35,7 +35,7 @@ overflow_add-result c =
 
 pub returns : goal.returns
 returns c =
-    let called = open-called c.args.dir.now c.gather_flat-g.result c.gather_flat-g.ensures c.open_among-answer.result c.args.seat c.args.sums.now
+    let called = open-called c.args.dir.now c.gather_flat.result c.gather_flat.ensures c.open_among-answer.result c.args.seat c.args.sums.now
     c.args.room.now c.open_among-answer.new.room (c.open_among-answer.ensures.result_value, c.open_among-answer.ensures.room_after) in
     record {
       result_value = open-result c.open_among-answer.result _ called.0

@@ -6,5 +6,5 @@ use Rattle.damvurit.proofs.damvurit_write_slip.Goals as goal
 
 pub result_of-requires : goal.result_of-requires
 result_of-requires c =
-    plain c.write_slip-answer.result _ c.write_slip-answer.ensures.result_value
+    plain c.write_slip.result _ c.write_slip.ensures.result_value
     (write-plain (slip_of c.args.kind c.args.status c.args.check c.args.seat c.args.opening c.args.step) c.args.slip.now)

@@ -1,14 +1,7 @@
--- What is found so far, else what the rest gives, is what is found in the whole.
-use Rattle.std.proofs.Common.{◌≡◌, ◌≤◌, ◌-◌, length, drop}
-use Rattle.directory.specs.Directory.{found}
-use Rattle.directory.proofs.Folds.{found_on}
+-- What is found of the code is what is found from this place on.
+use Rattle.std.proofs.Common.{◌≡◌, drop}
+use Rattle.directory.specs.Directory.{found, found_from}
 use Rattle.directory.proofs.find.Given as goal
 
-abbrev pub invariant-loop-i : goal.invariant-loop-i
-invariant-loop-i l = record {
-  in_range : l.i ≤ length l.dir;
-  so_far : found l.dir l.code ≡ found_on l.out l.i (drop l.i l.dir) l.code;
-}
-
-abbrev pub decreases-loop-i : goal.decreases-loop-i
-decreases-loop-i l = length l.dir - l.i
+abbrev pub invariant-loop-place : goal.invariant-loop-place
+invariant-loop-place l = found l.dir l.code ≡ found_from l.place (drop l.place l.dir) l.code

@@ -1,9 +1,9 @@
 -- Every element is written with `<` and a letter first. So no text begins like an element, and neither does a closing tag.
 -- Assumes nothing.
+use Rattle.std.specs.Prelude.{Option, Some, None}
 use mathlib.Core.Path.{◌≡◌, refl}
 use mathlib.Core.Bool.{true, false}
 use mathlib.Core.List.{List, [], ◌∷◌, ◌++◌, append_assoc}
-use mathlib.Core.Option.{Option, none, some}
 use Prim.Native.Nat.{ℕ}
 use Prim.Native.Char.{code}
 use native.Mathlib.Omega.{arith}
@@ -24,7 +24,7 @@ pub leaf-written : (n : List ℕ) (c : Option (List ℕ)) (x s : List ℕ) → r
 unfolding render
 leaf-written n c x s = simp append_assoc
 
-pub parent-written : (n : List ℕ) (es : Elements) (s : List ℕ) → render (parent n es) ++ s ≡ opening n none ++ (render_all es ++ (closing n ++ s))
+pub parent-written : (n : List ℕ) (es : Elements) (s : List ℕ) → render (parent n es) ++ s ≡ opening n None ++ (render_all es ++ (closing n ++ s))
 unfolding render
 parent-written n es s = simp append_assoc
 
@@ -38,13 +38,13 @@ pub record BeginsElement (w : List ℕ) : Type 0 where
 -- opening tags do, and so elements, and elements side by side
 opening-begins : (n : List ℕ) (c : Option (List ℕ)) (s : List ℕ) → is_name n ≡ true → BeginsElement (opening n c ++ s)
 opening-begins [] c s g = absurd (name-not-empty g)
-opening-begins (b ∷ w) none s g = record { letter = b; rest = w ++ bytes ">" ++ s; is-letter = name-letter b w g; written = refl }
-opening-begins (b ∷ w) (some ccy) s g =
+opening-begins (b ∷ w) None s g = record { letter = b; rest = w ++ bytes ">" ++ s; is-letter = name-letter b w g; written = refl }
+opening-begins (b ∷ w) (Some ccy) s g =
     record { letter = b; rest = w ++ (bytes " Ccy=\"" ++ (ccy ++ bytes "\">")) ++ s; is-letter = name-letter b w g; written = refl }
 
 pub element-begins : (e : Element) (s : List ℕ) → good_parts e ≡ true → BeginsElement (render e ++ s)
 element-begins (leaf n c x) s g = rw leaf-written (opening-begins n c (x ++ (closing n ++ s)) (leaf-name n c x g))
-element-begins (parent n es) s g = rw parent-written (opening-begins n none (render_all es ++ (closing n ++ s)) (parent-name n es g))
+element-begins (parent n es) s g = rw parent-written (opening-begins n None (render_all es ++ (closing n ++ s)) (parent-name n es g))
 
 pub elements-begin : (es : Elements) (s : List ℕ) → good_all es ≡ true → BeginsElement (render_all es ++ s)
 unfolding render_all good_all

@@ -1,9 +1,9 @@
 -- The machine reads an element, wherever one may begin, and the elements inside it one behind the other.
 -- Assumes nothing.
+use Rattle.std.specs.Prelude.{Option, None}
 use mathlib.Core.Path.{◌≡◌, refl, sym, subst}
 use mathlib.Core.Bool.{true, false}
 use mathlib.Core.List.{List, [], ◌∷◌, ◌++◌}
-use mathlib.Core.Option.{Option, none}
 use Prim.Native.Nat.{ℕ, suc, ◌+◌, ◌≤◌}
 use native.Mathlib.Omega.{arith}
 use lib.ListN.{length}
@@ -41,12 +41,12 @@ mutual
       reads-leaf name ccy text st i (leaf-name name ccy text g) (leaf-ccy name ccy text g) (leaf-content name ccy text g) o
   reads-element (parent name es) st i g r o =
       let inner : State = opens (counted st i) name (tagged false) in
-      let j : ℕ = i + length (opening name none) in
+      let j : ℕ = i + length (opening name None) in
       let d : ℕ = suc (suc (length st.names)) in
       let room : Room inner (count_all es) (depth_all es) = record { few = omega (arith, r.few); shallow = omega (arith, r.shallow) } in
       let child : MayOpen inner j = open-child inner j (omega (arith, r.shallow, some-depths es)) (omega (arith, r.few, some-elements es)) in
       same-passage
-      (passage-then (reads-opening name none st i (parent-name name es g) refl o)
+      (passage-then (reads-opening name None st i (parent-name name es g) refl o)
       (passage-then (reads-elements es inner j (parent-children name es g) room refl child)
       (reads-children-end name (behind (counted st i) (count_all es) (starts_all es j) (depths_all es d)) _)))
       refl (behind-inside st i (count_all es) (starts_all es j) (depths_all es d))

@@ -1,9 +1,9 @@
 -- An element begins wherever the machine may open one: behind nothing, behind an opening tag, or behind a child. The machine reads its opening tag.
 -- Assumes nothing.
+use Rattle.std.specs.Prelude.{Option, Some, None}
 use mathlib.Core.Path.{◌≡◌, refl, ap, ◌∙◌}
 use mathlib.Core.Bool.{true, false}
 use mathlib.Core.List.{List, [], ◌∷◌}
-use mathlib.Core.Option.{Option, none, some}
 use Prim.Native.Nat.{ℕ, suc, ◌-◌, ◌<◌}
 use Prim.Native.Char.{code}
 use native.Mathlib.Omega.{arith}
@@ -21,8 +21,8 @@ use Rattle.sheet.proofs.Acceptance.Tags.{reads-name, reads-tag-end, reads-ccy}
 -- an element may begin at place i: its `<` is accepted, and behind it each letter begins the element
 pub record MayOpen (st : State) (i : ℕ) : Type 0 where
   pub turn : Mode
-  pub less : step st st.mode i (code "<") ≡ some (goes st turn)
-  pub letter : (b : ℕ) → is_letter b ≡ true → step (goes st turn) turn (suc i) b ≡ some (begins st (suc i) b)
+  pub less : step st st.mode i (code "<") ≡ Some (goes st turn)
+  pub letter : (b : ℕ) → is_letter b ≡ true → step (goes st turn) turn (suc i) b ≡ Some (begins st (suc i) b)
 
 -- a letter is not the `/` of a closing tag
 letter-no-slash : (b : ℕ) → is_letter b ≡ true → eqb b (code "/") ≡ false
@@ -61,11 +61,11 @@ pub reads-opening : (name : List ℕ) (ccy : Option (List ℕ)) (st : State) (i 
     → Reads st i (opening name ccy) (opens (counted st i) name (tagged (given ccy)))
 unfolding is_ccy
 reads-opening [] ccy st i g k o = absurd (name-not-empty g)
-reads-opening (b ∷ w) none st i g k o =
-    byte-then o.less (byte-then (o.letter b (name-letter b w g) ∙ ap some (begins-counted st i b))
+reads-opening (b ∷ w) None st i g k o =
+    byte-then o.less (byte-then (o.letter b (name-letter b w g) ∙ ap Some (begins-counted st i b))
     (passage-then (reads-name w (b ∷ []) (counted st i) (suc (suc i)) (name-bytes b w g) (omega (arith, name-short b w g)))
     (reads-tag-end (b ∷ w) (counted st i) _)))
-reads-opening (b ∷ w) (some ccy) st i g k o =
-    byte-then o.less (byte-then (o.letter b (name-letter b w g) ∙ ap some (begins-counted st i b))
+reads-opening (b ∷ w) (Some ccy) st i g k o =
+    byte-then o.less (byte-then (o.letter b (name-letter b w g) ∙ ap Some (begins-counted st i b))
     (passage-then (reads-name w (b ∷ []) (counted st i) (suc (suc i)) (name-bytes b w g) (omega (arith, name-short b w g)))
     (reads-ccy (b ∷ w) ccy (counted st i) _ k)))

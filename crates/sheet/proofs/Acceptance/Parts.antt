@@ -1,9 +1,9 @@
 -- The tests of names, texts and trees, taken apart.
 -- Assumes nothing.
+use Rattle.std.specs.Prelude.{Option, Some, None}
 use mathlib.Core.Path.{◌≡◌}
 use mathlib.Core.Bool.{Bool, true, false, ◌&&◌, false≢true}
 use mathlib.Core.List.{List, [], ◌∷◌}
-use mathlib.Core.Option.{Option, none, some}
 use Prim.Native.Nat.{ℕ, ◌≤◌}
 use lib.Dec.{leb}
 use lib.ListN.{length}
@@ -35,8 +35,8 @@ name-not-empty g = false≢true g
 
 -- an opening tag has a Ccy
 abbrev pub given : Option (List ℕ) → Bool
-given none = false
-given (some ccy) = true
+given None = false
+given (Some ccy) = true
 
 -- a text is 1 to 140 bytes of a text
 module _ (x : List ℕ) (g : is_content x ≡ true) where

@@ -1,8 +1,8 @@
 -- A passage of the sheet takes the machine from one state to another, whatever stands behind it. Passages are put together here.
 -- Assumes nothing.
+use Rattle.std.specs.Prelude.{Some}
 use mathlib.Core.Path.{◌≡◌, subst, ◌∙◌}
 use mathlib.Core.List.{List, [], ◌∷◌, ◌++◌, append_assoc}
-use mathlib.Core.Option.{some}
 use Prim.Native.Nat.{ℕ, suc, ◌+◌}
 use native.Mathlib.Nat.{add-zero, add-suc, suc-add, add_assoc}
 use lib.ListN.{length, length-append}
@@ -14,7 +14,7 @@ pub record Reads (st : State) (i : ℕ) (w : List ℕ) (next : State) : Type 0 w
   pub on : (rest : List ℕ) → run st i (w ++ rest) ≡ run next (i + length w) rest
 
 -- one byte that the machine accepts
-pub run-byte : (st next : State) (i b : ℕ) (s : List ℕ) → step st st.mode i b ≡ some next → run st i (b ∷ s) ≡ run next (suc i) s
+pub run-byte : (st next : State) (i b : ℕ) (s : List ℕ) → step st st.mode i b ≡ Some next → run st i (b ∷ s) ≡ run next (suc i) s
 unfolding run
 run-byte st next i b s e = rw (e, run)
 
@@ -23,7 +23,7 @@ pub nothing_read : (st : State) (i : ℕ) → Reads st i [] st
 nothing_read st i = record { on = λ rest. rw add-zero }
 
 -- a byte, and then the rest of the passage
-pub byte-then : {st mid next : State} {i b : ℕ} {w : List ℕ} → step st st.mode i b ≡ some mid → Reads mid (suc i) w next → Reads st i (b ∷ w) next
+pub byte-then : {st mid next : State} {i b : ℕ} {w : List ℕ} → step st st.mode i b ≡ Some mid → Reads mid (suc i) w next → Reads st i (b ∷ w) next
 byte-then {st} {mid} {next} {i} {b} {w} e r = record { on = λ rest. run-byte st mid i b (w ++ rest) e ∙ r.on rest ∙ rw (suc-add, add-suc) }
 
 -- one passage, and then another

@@ -1,9 +1,9 @@
 -- Two tags that are written the same are the same, whatever stands behind each.
 -- Assumes nothing.
+use Rattle.std.specs.Prelude.{Option, Some, None}
 use mathlib.Core.Path.{◌≡◌, refl, ap}
 use mathlib.Core.Bool.{true, false, false≢true}
 use mathlib.Core.List.{List, [], ◌∷◌, ◌++◌, append_assoc}
-use mathlib.Core.Option.{Option, none, some}
 use Prim.Native.Nat.{ℕ, zero, suc}
 use Prim.Native.Char.{code}
 use native.Mathlib.Omega.{arith}
@@ -45,19 +45,19 @@ row-all-capitals (suc k) [] g = absurd (false≢true g)
 row-all-capitals (suc k) (b ∷ s) g =
     rw (and_left (is_capital b) (fits (replicate k (code "^")) s) g) (row-all-capitals k s (and_right (is_capital b) (fits (replicate k (code "^")) s) g))
 
-ccy-all-capitals : (ccy : List ℕ) → is_ccy (some ccy) ≡ true → every is_capital ccy ≡ true
+ccy-all-capitals : (ccy : List ℕ) → is_ccy (Some ccy) ≡ true → every is_capital ccy ≡ true
 unfolding is_ccy currency_pattern
 ccy-all-capitals ccy g = row-all-capitals 3 ccy g
 
 -- what stands behind a name in an opening tag
 abbrev behind_name : Option (List ℕ) → List ℕ → List ℕ
-behind_name none s = code ">" ∷ s
-behind_name (some ccy) s = bytes " Ccy=\"" ++ (ccy ++ (bytes "\">" ++ s))
+behind_name None s = code ">" ∷ s
+behind_name (Some ccy) s = bytes " Ccy=\"" ++ (ccy ++ (bytes "\">" ++ s))
 
 -- a tag and what stands behind it, part by part
 opening-written : (n : List ℕ) (c : Option (List ℕ)) (s : List ℕ) → opening n c ++ s ≡ code "<" ∷ (n ++ behind_name c s)
-opening-written n none s = simp append_assoc
-opening-written n (some ccy) s = simp append_assoc
+opening-written n None s = simp append_assoc
+opening-written n (Some ccy) s = simp append_assoc
 
 closing-written : (n : List ℕ) (s : List ℕ) → closing n ++ s ≡ bytes "</" ++ (n ++ (code ">" ∷ s))
 closing-written n s = simp append_assoc
@@ -71,19 +71,19 @@ pub record SameOpening (n m : List ℕ) (c d : Option (List ℕ)) (s t : List �
 -- names end at their first byte that is no name byte; it also tells whether a Ccy follows
 behind-name : (n m : List ℕ) (c d : Option (List ℕ)) (s t : List ℕ) → every is_name_byte n ≡ true → every is_name_byte m ≡ true
     → is_ccy c ≡ true → is_ccy d ≡ true → n ++ behind_name c s ≡ m ++ behind_name d t → SameOpening n m c d s t
-behind-name n m none none s t g h k l e =
+behind-name n m None None s t g h k l e =
     let r = splits-same is_name_byte n m 62 62 s t g h end-no-name end-no-name e in
     record { name = r.before; ccy = refl; after = r.after }
-behind-name n m none (some v) s t g h k l e =
+behind-name n m None (Some v) s t g h k l e =
     let r = splits-same is_name_byte n m 62 32 s (bytes "Ccy=\"" ++ (v ++ (bytes "\">" ++ t))) g h end-no-name blank-no-name e in
     absurd (omega (arith, r.byte))
-behind-name n m (some u) none s t g h k l e =
+behind-name n m (Some u) None s t g h k l e =
     let r = splits-same is_name_byte n m 32 62 (bytes "Ccy=\"" ++ (u ++ (bytes "\">" ++ s))) t g h blank-no-name end-no-name e in
     absurd (omega (arith, r.byte))
-behind-name n m (some u) (some v) s t g h k l e =
+behind-name n m (Some u) (Some v) s t g h k l e =
     let r = splits-same is_name_byte n m 32 32 (bytes "Ccy=\"" ++ (u ++ (bytes "\">" ++ s))) (bytes "Ccy=\"" ++ (v ++ (bytes "\">" ++ t))) g h blank-no-name blank-no-name e in
     let q = splits-same is_capital u v 34 34 (62 ∷ s) (62 ∷ t) (ccy-all-capitals u k) (ccy-all-capitals v l) quote-no-capital quote-no-capital (cc r.after) in
-    record { name = r.before; ccy = ap some q.before; after = cc q.after }
+    record { name = r.before; ccy = ap Some q.before; after = cc q.after }
 
 -- two opening tags that are written the same
 pub same-opening : (n m : List ℕ) (c d : Option (List ℕ)) (s t : List ℕ) → is_name n ≡ true → is_name m ≡ true → is_ccy c ≡ true → is_ccy d ≡ true

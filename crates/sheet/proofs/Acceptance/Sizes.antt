@@ -1,7 +1,7 @@
 -- A tree has at least one element and one level, and its lists of starts and depths have a place for each element.
 -- Assumes nothing.
+use Rattle.std.specs.Prelude.{None}
 use mathlib.Core.Path.{◌≡◌, refl, ap}
-use mathlib.Core.Option.{none}
 use Prim.Native.Nat.{ℕ, suc, ◌+◌, ◌≤◌}
 use native.Mathlib.Omega.{arith}
 use lib.ListN.{length, length-append}
@@ -34,7 +34,7 @@ mutual
 
   pub count-starts : (e : Element) (i : ℕ) → length (starts_from e i) ≡ count_of e
   count-starts (leaf name ccy text) i = refl
-  count-starts (parent name es) i = ap suc (count-all-starts es (i + length (opening name none)))
+  count-starts (parent name es) i = ap suc (count-all-starts es (i + length (opening name None)))
 
   pub count-all-starts : (es : Elements) (i : ℕ) → length (starts_all es i) ≡ count_all es
   count-all-starts (one e) i = count-starts e i

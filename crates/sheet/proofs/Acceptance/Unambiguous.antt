@@ -1,9 +1,9 @@
 -- A sheet is written from one tree only: two good trees that are written the same are the same.
 -- Assumes nothing.
+use Rattle.std.specs.Prelude.{Option, None}
 use mathlib.Core.Path.{◌≡◌, refl, ap, sym, ◌∙◌}
 use mathlib.Core.Bool.{true}
 use mathlib.Core.List.{List, [], ◌∷◌, ◌++◌, append_assoc}
-use mathlib.Core.Option.{Option, none}
 use Prim.Native.Nat.{ℕ}
 use Rattle.shape.specs.Text.{bytes}
 use Rattle.shape.specs.Bytes.{is_text}
@@ -13,7 +13,7 @@ use Rattle.sheet.proofs.Acceptance.Same.{SameOpening, same-opening, same-behind-
 use Rattle.sheet.proofs.Acceptance.Parts.{leaf-name, leaf-ccy, leaf-content, content-bytes, parent-name, parent-children, first_good, others-good}
 use Rattle.sheet.proofs.Acceptance.Begins.{less-no-text, leaf-written, parent-written, elements-begin, text-begins-otherwise, closing-begins-otherwise}
 
-no-ccy : is_ccy none ≡ true
+no-ccy : is_ccy None ≡ true
 unfolding is_ccy
 no-ccy = refl
 
@@ -43,15 +43,15 @@ leaf-no-parent : (n m : List ℕ) (c : Option (List ℕ)) (x : List ℕ) (fs : E
 leaf-no-parent n m c x fs s t g h e =
     let u : List ℕ = x ++ (closing n ++ s) in
     let v : List ℕ = render_all fs ++ (closing m ++ t) in
-    let q : opening n c ++ u ≡ opening m none ++ v = sym (leaf-written n c x s) ∙ e ∙ parent-written m fs t in
-    let o = same-opening n m c none u v (leaf-name n c x g) (parent-name m fs h) (leaf-ccy n c x g) no-ccy q in
+    let q : opening n c ++ u ≡ opening m None ++ v = sym (leaf-written n c x s) ∙ e ∙ parent-written m fs t in
+    let o = same-opening n m c None u v (leaf-name n c x g) (parent-name m fs h) (leaf-ccy n c x g) no-ccy q in
     text-begins-otherwise x (closing n ++ s) (leaf-content n c x g) (rw o.after (elements-begin fs (closing m ++ t) (parent-children m fs h)))
 
 -- two parents that are written the same have the same name, and the same stands behind their opening tags
 same-parent : (n m : List ℕ) (es fs : Elements) (s t : List ℕ) → good_parts (parent n es) ≡ true → good_parts (parent m fs) ≡ true
-    → render (parent n es) ++ s ≡ render (parent m fs) ++ t → SameOpening n m none none (render_all es ++ (closing n ++ s)) (render_all fs ++ (closing m ++ t))
+    → render (parent n es) ++ s ≡ render (parent m fs) ++ t → SameOpening n m None None (render_all es ++ (closing n ++ s)) (render_all fs ++ (closing m ++ t))
 same-parent n m es fs s t g h e =
-    same-opening n m none none (render_all es ++ (closing n ++ s)) (render_all fs ++ (closing m ++ t)) (parent-name n es g) (parent-name m fs h) no-ccy no-ccy
+    same-opening n m None None (render_all es ++ (closing n ++ s)) (render_all fs ++ (closing m ++ t)) (parent-name n es g) (parent-name m fs h) no-ccy no-ccy
     (sym (parent-written n es s) ∙ e ∙ parent-written m fs t)
 
 -- where a closing tag stands no more elements follow

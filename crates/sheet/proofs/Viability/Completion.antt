@@ -1,9 +1,9 @@
 -- What was read before a refusal can be completed: the machine finishes the sheet from where it stands, and what it has then read is a good tree.
 -- And what the machine accepts is well formed.
 -- Assumes nothing.
+use Rattle.std.specs.Prelude.{Option, Some, None}
 use mathlib.Core.Path.{◌≡◌, refl, sym, ◌∙◌}
 use mathlib.Core.List.{List, [], ◌∷◌, ◌++◌, append-nil, append_assoc}
-use mathlib.Core.Option.{Option, none, some}
 use Prim.Native.Nat.{ℕ, suc, ◌+◌, ◌≤◌}
 use native.Mathlib.Omega.{arith}
 use lib.Dec.{lit<}
@@ -48,10 +48,10 @@ stops-later p s b k h =
     (omega arith, rw (append_assoc p (b ∷ []) s) at h.1)
 
 stops-of : (o : Option State) (p s : List ℕ) (b i k : ℕ) → length p ≡ i → Viable p
-    → ((next : State) → o ≡ some next → run next (suc i) s ≡ refused k → Stops (p ++ (b ∷ [])) s k)
+    → ((next : State) → o ≡ Some next → run next (suc i) s ≡ refused k → Stops (p ++ (b ∷ [])) s k)
     → goes_on o i s ≡ refused k → Stops p (b ∷ s) k
-stops-of none p s b i k n v more e = stops-here p (b ∷ s) k (cc) v
-stops-of (some next) p s b i k n v more e = stops-later p s b k (more next refl e)
+stops-of None p s b i k n v more e = stops-here p (b ∷ s) k (cc) v
+stops-of (Some next) p s b i k n v more e = stops-later p s b k (more next refl e)
 
 stops : (s p : List ℕ) (st : State) (i k : ℕ) → length p ≡ i → Leads p st → run st i s ≡ refused k → Stops p s k
 unfolding run
@@ -73,10 +73,10 @@ completes s k e =
 
 -- where the bytes p lead to a state, and the machine goes on from it to the end, all of them are well formed
 formed-of : (o : Option State) (p s : List ℕ) (b i n : ℕ) (ss ds : List ℕ)
-    → ((next : State) → o ≡ some next → run next (suc i) s ≡ accepted n ss ds → WellFormed ((p ++ (b ∷ [])) ++ s))
+    → ((next : State) → o ≡ Some next → run next (suc i) s ≡ accepted n ss ds → WellFormed ((p ++ (b ∷ [])) ++ s))
     → goes_on o i s ≡ accepted n ss ds → WellFormed (p ++ (b ∷ s))
-formed-of none p s b i n ss ds more e = absurd (not-both (refused i) n i ss ds e refl)
-formed-of (some next) p s b i n ss ds more e = rw (append_assoc p (b ∷ []) s) at (more next refl e)
+formed-of None p s b i n ss ds more e = absurd (not-both (refused i) n i ss ds e refl)
+formed-of (Some next) p s b i n ss ds more e = rw (append_assoc p (b ∷ []) s) at (more next refl e)
 
 formed : (s p : List ℕ) (st : State) (i n : ℕ) (ss ds : List ℕ) → Leads p st → run st i s ≡ accepted n ss ds → WellFormed (p ++ s)
 unfolding run

@@ -1,9 +1,9 @@
 -- From every state that holds, some bytes lead to a whole sheet: x for a name or a text, AAA for a Ccy, and the closing tags.
 -- Assumes nothing.
+use Rattle.std.specs.Prelude.{Option, Some, None}
 use mathlib.Core.Path.{◌≡◌, refl}
 use mathlib.Core.Bool.{Bool, true, false}
 use mathlib.Core.List.{List, [], ◌∷◌, ◌++◌}
-use mathlib.Core.Option.{Option, none, some}
 use Prim.Native.Nat.{ℕ, suc}
 use Prim.Native.Char.{code}
 use lib.Dec.{eqb}
@@ -20,10 +20,10 @@ use Rattle.sheet.proofs.Viability.Written.{at-outer, at-begun, at-naming, at-att
 -- some bytes lead from the state, at place i, to a whole sheet
 pub data Finishes : State → ℕ → Type 0 where
   there : {st : State} {i : ℕ} → st.mode ≡ whole → Finishes st i
-  byte : {st next : State} {i : ℕ} (b : ℕ) → step st st.mode i b ≡ some next → Finishes next (suc i) → Finishes st i
+  byte : {st next : State} {i : ℕ} (b : ℕ) → step st st.mode i b ≡ Some next → Finishes next (suc i) → Finishes st i
 
 -- a test that holds makes the step
-passes : {made : State} (t : Bool) (other : Option State) → t ≡ true → when t made other ≡ some made
+passes : {made : State} (t : Bool) (other : Option State) → t ≡ true → when t made other ≡ Some made
 passes t other e = rw e
 
 -- a byte that may follow in ` Ccy="UAH">`
@@ -40,8 +40,8 @@ module _ (c : ℕ) (ss ds : List ℕ) where
   rest-of-tag-closes : (ns : List (List ℕ)) (d : ℕ) (r : List ℕ) (i : ℕ)
       → ((j : ℕ) → Finishes (state (after_closing (outside ns)) (outside ns) c ss ds) j) → Finishes (state (ending (d ∷ r)) ns c ss ds) i
   unfolding step
-  rest-of-tag-closes ns d [] i then = byte d (passes (eqb d d) none (eq-eqb d d refl)) (then (suc i))
-  rest-of-tag-closes ns d (f ∷ r) i then = byte d (passes (eqb d d) none (eq-eqb d d refl)) (rest-of-tag-closes ns f r (suc i) then)
+  rest-of-tag-closes ns d [] i then = byte d (passes (eqb d d) None (eq-eqb d d refl)) (then (suc i))
+  rest-of-tag-closes ns d (f ∷ r) i then = byte d (passes (eqb d d) None (eq-eqb d d refl)) (rest-of-tag-closes ns f r (suc i) then)
 
   name-closes : (n : List ℕ) (ns : List (List ℕ)) (i : ℕ)
       → ((j : ℕ) → Finishes (state (after_closing (outside ns)) (outside ns) c ss ds) j) → Finishes (state (ending (n ++ bytes ">")) ns c ss ds) i
@@ -69,9 +69,9 @@ module _ (c : ℕ) (ss ds : List ℕ) where
   attribute-finishes : (d : ℕ) (r : List ℕ) (ns : List (List ℕ)) (i : ℕ) → Finishes (state (attribute (d ∷ r)) ns c ss ds) i
   unfolding step
   attribute-finishes d [] ns i =
-      byte (follower d).0 (passes (is_next d (follower d).0) none (follower d).1) (tagged-finishes true ns (suc i))
+      byte (follower d).0 (passes (is_next d (follower d).0) None (follower d).1) (tagged-finishes true ns (suc i))
   attribute-finishes d (f ∷ r) ns i =
-      byte (follower d).0 (passes (is_next d (follower d).0) none (follower d).1) (attribute-finishes f r ns (suc i))
+      byte (follower d).0 (passes (is_next d (follower d).0) None (follower d).1) (attribute-finishes f r ns (suc i))
 
   naming-finishes : (n : List ℕ) (ns : List (List ℕ)) (i : ℕ) → Finishes (state (naming n) ns c ss ds) i
   unfolding step is_name_byte is_letter is_digit is_capital is_small

@@ -1,9 +1,9 @@
 -- A part that grows stays good: a name or a text by one byte, an element's children by one child.
 -- Assumes nothing.
+use Rattle.std.specs.Prelude.{None}
 use mathlib.Core.Path.{◌≡◌, refl}
 use mathlib.Core.Bool.{Bool, true}
 use mathlib.Core.List.{List, [], ◌∷◌, ◌++◌, append_assoc}
-use mathlib.Core.Option.{none}
 use Prim.Native.Nat.{ℕ, suc, ◌+◌, ◌-◌, ◌≤◌, ◌<◌}
 use native.Mathlib.Omega.{arith}
 use lib.ListN.{length, length-append}
@@ -51,11 +51,11 @@ pub joins : {q n : List ℕ} {ns : List (List ℕ)} {c : ℕ} → Place q (n ∷
 unfolding render_all count_all depth_all good_all
 joins (inside {q} {n} place name) e good depth =
     let deep = some-depth e in
-    rw (append_assoc q (opening n none) (render e)) (grown place name (one e) good (omega arith) depth)
+    rw (append_assoc q (opening n None) (render e)) (grown place name (one e) good (omega arith) depth)
 joins (behind (grown {q} {n} {ns} {c} place name es goods room depths)) e good depth =
     let number : suc c + count_all (appended es e) ≡ suc c + count_all es + count_of e = rw (appended-count es e) (omega arith) in
     let deep = appended-depth es e (depth_most - length (n ∷ ns)) (omega arith) (omega arith) in
-    rw (← appended-behind q (opening n none) es e, ← number) (grown place name (appended es e) (appended-good es e goods good) room (omega arith))
+    rw (← appended-behind q (opening n None) es e, ← number) (grown place name (appended es e) (appended-good es e goods good) room (omega arith))
 
 every-longer : (f : ℕ → Bool) (s : List ℕ) (b : ℕ) → every f s ≡ true → f b ≡ true → every f (s ++ (b ∷ [])) ≡ true
 every-longer f [] b e h = rw h

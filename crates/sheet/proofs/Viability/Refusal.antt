@@ -1,8 +1,8 @@
 -- A refusal is for good: whatever follows the byte that was refused, the sheet is refused there. So no well-formed sheet begins so.
 -- Assumes nothing.
+use Rattle.std.specs.Prelude.{Option, Some, None}
 use mathlib.Core.Path.{◌≡◌, refl, sym, ◌∙◌}
 use mathlib.Core.List.{List, [], ◌∷◌, ◌++◌}
-use mathlib.Core.Option.{Option, none, some}
 use Prim.Native.Nat.{ℕ, zero, suc, ◌+◌, ◌≤◌, ◌<◌}
 use native.Mathlib.Omega.{arith}
 use native.Mathlib.Nat.{le_of_suc-le-suc}
@@ -14,16 +14,16 @@ use Rattle.sheet.proofs.Acceptance.Accepts.{accepts-well-formed}
 
 -- what a step's outcome makes of the bytes behind it
 abbrev pub goes_on : Option State → ℕ → List ℕ → Reading
-goes_on none i s = refused i
-goes_on (some next) i s = run next (suc i) s
+goes_on None i s = refused i
+goes_on (Some next) i s = run next (suc i) s
 
 pub run-steps : (st : State) (i b : ℕ) (s : List ℕ) → run st i (b ∷ s) ≡ goes_on (step st st.mode i b) i s
 unfolding run
 run-steps st i b s = same (step st st.mode i b)
   where
-    same : (o : Option State) → (elim o as (λ x. Reading) [ none ↦ refused i | some next ↦ run next (suc i) s ]) ≡ goes_on o i s
-    same none = refl
-    same (some next) = refl
+    same : (o : Option State) → (elim o as (λ x. Reading) [ None ↦ refused i | Some next ↦ run next (suc i) s ]) ≡ goes_on o i s
+    same None = refl
+    same (Some next) = refl
 
 -- a reading is not both
 pub not-both : (r : Reading) (n k : ℕ) (starts depths : List ℕ) → r ≡ accepted n starts depths → r ≡ refused k → ⊥
@@ -58,8 +58,8 @@ accepted-ends-whole st turning i n ss ds e = absurd (not-both (refused i) n i ss
 -- a refusal stands at the place that is read, or behind it
 ahead_of : (o : Option State) (s : List ℕ) (i k : ℕ) → ((next : State) → run next (suc i) s ≡ refused k → suc i ≤ k)
     → goes_on o i s ≡ refused k → i ≤ k
-ahead_of none s i k more e = let h : k ≡ i = cc in omega arith
-ahead_of (some next) s i k more e = let h = more next e in omega arith
+ahead_of None s i k more e = let h : k ≡ i = cc in omega arith
+ahead_of (Some next) s i k more e = let h = more next e in omega arith
 
 refusal-ahead : (s : List ℕ) (st : State) (i k : ℕ) → run st i s ≡ refused k → i ≤ k
 unfolding run
@@ -70,8 +70,8 @@ refusal-ahead (b ∷ s) st i k e =
 -- once more bytes are read than stand before a refusal, what follows them makes no difference
 same_of : (o : Option State) (s t : List ℕ) (i k : ℕ) → ((next : State) → run next (suc i) s ≡ refused k → run next (suc i) t ≡ refused k)
     → goes_on o i s ≡ refused k → goes_on o i t ≡ refused k
-same_of none s t i k more e = e
-same_of (some next) s t i k more e = more next e
+same_of None s t i k more e = e
+same_of (Some next) s t i k more e = more next e
 
 pub refused-whatever-follows : (j : ℕ) (s rest : List ℕ) (st : State) (i k : ℕ) → j ≤ length s → k < i + j
     → run st i s ≡ refused k → run st i (take j s ++ rest) ≡ refused k

@@ -1,9 +1,10 @@
 -- Each step keeps what holds: the bytes read so far and one more lead to the next state. One lemma for each mode.
 -- Assumes nothing.
+use Rattle.std.specs.Prelude.{Option, Some, None}
 use mathlib.Core.Path.{◌≡◌, refl, subst, ◌∙◌}
 use mathlib.Core.Bool.{Bool, true, false, not, ◌&&◌, false≢true}
 use mathlib.Core.List.{List, [], ◌∷◌, ◌++◌, append_assoc}
-use mathlib.Core.Option.{Option, none, some, some-injective, none-ne-some}
+use Rattle.std.proofs.lemmas.Option.{none-some, same_Some}
 use Prim.Native.Nat.{ℕ, suc, ◌+◌, ◌≤◌}
 use Prim.Native.Char.{code}
 use native.Mathlib.Omega.{arith}
@@ -25,14 +26,14 @@ use Rattle.sheet.proofs.Viability.Tags.{spelled, tag-with-ccy, one-byte-on, clos
 
 -- if the step is made, the bytes lead to the state that it makes
 abbrev pub Kept : List ℕ → Option State → Type 0
-Kept p o = (next : State) → o ≡ some next → Leads p next
+Kept p o = (next : State) → o ≡ Some next → Leads p next
 
-kept-none : {p : List ℕ} → Kept p none
-kept-none next e = absurd (none-ne-some next e)
+kept-none : {p : List ℕ} → Kept p None
+kept-none next e = absurd (none-some next e)
 
 -- a step by a test, by two tests, by a byte
 kept-when : {p : List ℕ} (t : Bool) (made : State) (other : Option State) → (t ≡ true → Leads p made) → Kept p other → Kept p (when t made other)
-kept-when {p} true made other yes-made no_other next e = subst (Leads p) (some-injective made next e) (yes-made refl)
+kept-when {p} true made other yes-made no_other next e = subst (Leads p) (same_Some made next e) (yes-made refl)
 kept-when false made other yes-made no_other next e = no_other next e
 
 kept-both : {p : List ℕ} (t u : Bool) (made : State) (other : Option State) → (t ≡ true → u ≡ true → Leads p made) → Kept p other
@@ -54,7 +55,7 @@ each_of false u v w e = absurd (false≢true e)
 module _ (ss ds : List ℕ) (i b : ℕ) (q : List ℕ) (ns : List (List ℕ)) (c : ℕ) where
   outer-keeps : Room q ns c → Kept (q ++ (b ∷ [])) (step (state outer ns c ss ds) outer i b)
   unfolding step
-  outer-keeps room = kept_byte q b (code "<") _ none (at-begun room) kept-none
+  outer-keeps room = kept_byte q b (code "<") _ None (at-begun room) kept-none
 
   -- an element's first letter stands behind its `<`
   named : Room q ns c → is_letter b ≡ true → Holds (naming (b ∷ [])) ((q ++ bytes "<") ++ (b ∷ [])) ns (suc c)
@@ -63,7 +64,7 @@ module _ (ss ds : List ℕ) (i b : ℕ) (q : List ℕ) (ns : List (List ℕ)) (c
 
   begun-keeps : Room q ns c → Kept ((q ++ bytes "<") ++ (b ∷ [])) (step (state begun ns c ss ds) begun i b)
   unfolding step
-  begun-keeps room = kept-when (is_letter b) _ none (λ letter. named room letter) kept-none
+  begun-keeps room = kept-when (is_letter b) _ None (λ letter. named room letter) kept-none
 
   module _ (n : List ℕ) (room : Room q ns c) (name : is_name n ≡ true) where
     name-goes-on : is_name_byte b ≡ true → ltb (length n) name_most ≡ true
@@ -74,38 +75,38 @@ module _ (ss ds : List ℕ) (i b : ℕ) (q : List ℕ) (ns : List (List ℕ)) (c
 
     tag-ends : Holds (tagged false) ((q ++ (bytes "<" ++ n)) ++ bytes ">") (n ∷ ns) (suc c)
     unfolding is_ccy
-    tag-ends = rw (append_assoc q (bytes "<" ++ n) (bytes ">")) (at-tagged room name none refl)
+    tag-ends = rw (append_assoc q (bytes "<" ++ n) (bytes ">")) (at-tagged room name None refl)
 
     naming-keeps : Kept ((q ++ (bytes "<" ++ n)) ++ (b ∷ [])) (step (state (naming n) ns (suc c) ss ds) (naming n) i b)
     unfolding step
     naming-keeps =
         kept-both (is_name_byte b) (ltb (length n) name_most) _ _ name-goes-on
         (kept_byte (q ++ (bytes "<" ++ n)) b (code ">") _ _ tag-ends
-        (kept_byte (q ++ (bytes "<" ++ n)) b (code " ") _ none (at-attribute room name (λ t f. spelled q n t f))
+        (kept_byte (q ++ (bytes "<" ++ n)) b (code " ") _ None (at-attribute room name (λ t f. spelled q n t f))
         kept-none))
 
     module _ (p : List ℕ) (d : ℕ) where
       last-of-attribute-keeps : ((t : List ℕ) → Follows (d ∷ []) t → Tag p q n t)
           → Kept (p ++ (b ∷ [])) (step (state (attribute (d ∷ [])) (n ∷ ns) (suc c) ss ds) (attribute (d ∷ [])) i b)
       unfolding step
-      last-of-attribute-keeps tags = kept-when (is_next d b) _ none (λ e. tag-with-ccy room name (tags (b ∷ []) (goes e ends))) kept-none
+      last-of-attribute-keeps tags = kept-when (is_next d b) _ None (λ e. tag-with-ccy room name (tags (b ∷ []) (goes e ends))) kept-none
 
       attribute-keeps : (f : ℕ) (r : List ℕ) → ((t : List ℕ) → Follows (d ∷ f ∷ r) t → Tag p q n t)
           → Kept (p ++ (b ∷ [])) (step (state (attribute (d ∷ f ∷ r)) (n ∷ ns) (suc c) ss ds) (attribute (d ∷ f ∷ r)) i b)
       unfolding step
       attribute-keeps f r tags =
-          kept-when (is_next d b) _ none (λ e. at-attribute room name (λ t g. one-byte-on b t (tags (b ∷ t) (goes e g)))) kept-none
+          kept-when (is_next d b) _ None (λ e. at-attribute room name (λ t g. one-byte-on b t (tags (b ∷ t) (goes e g)))) kept-none
 
     -- a child begins behind an opening tag that has no Ccy
     child-begins : (ccy : Option (List ℕ))
         → (eqb b (code "<") && not (given ccy) && ltb (suc (length ns)) depth_most && ltb (suc c) element_most) ≡ true
         → Holds begun ((q ++ opening n ccy) ++ (b ∷ [])) (n ∷ ns) (suc c)
-    child-begins none e =
+    child-begins None e =
         let tests = each_of (eqb b (code "<")) true (ltb (suc (length ns)) depth_most) (ltb (suc c) element_most) e in
         let few = ltb-true (suc c) element_most tests.3 in
         let shallow = ltb-true (suc (length ns)) depth_most tests.2 in
         rw (eqb-true b (code "<") tests.0) (at-begun (record { place = inside room.place name; few = few; shallow = shallow }))
-    child-begins (some ccy) e =
+    child-begins (Some ccy) e =
         absurd (false≢true (each_of (eqb b (code "<")) false (ltb (suc (length ns)) depth_most) (ltb (suc c) element_most) e).1)
 
     module _ (ccy : Option (List ℕ)) (capitals : is_ccy ccy ≡ true) where
@@ -117,7 +118,7 @@ module _ (ss ds : List ℕ) (i b : ℕ) (q : List ℕ) (ns : List (List ℕ)) (c
       unfolding step
       tagged-keeps =
           kept-when (is_text b) _ _ text-begins
-          (kept-when (eqb b (code "<") && not (given ccy) && ltb (suc (length ns)) depth_most && ltb (suc c) element_most) _ none (child-begins ccy)
+          (kept-when (eqb b (code "<") && not (given ccy) && ltb (suc (length ns)) depth_most && ltb (suc c) element_most) _ None (child-begins ccy)
           kept-none)
 
       module _ (text : List ℕ) (k : ℕ) (content : is_content text ≡ true) (size : length text ≡ k) where
@@ -141,7 +142,7 @@ module _ (ss ds : List ℕ) (i b : ℕ) (q : List ℕ) (ns : List (List ℕ)) (c
         unfolding step
         texting-keeps =
             kept-both (is_text b) (ltb k text_most) _ _ text-goes-on
-            (kept_byte (q ++ (opening n ccy ++ text)) b (code "<") _ none text-ends
+            (kept_byte (q ++ (opening n ccy ++ text)) b (code "<") _ None text-ends
             kept-none)
 
   module _ (p n : List ℕ) (d total : ℕ) (place : Place q ns c) (e : Element) (good : good_parts e ≡ true)
@@ -149,27 +150,27 @@ module _ (ss ds : List ℕ) (i b : ℕ) (q : List ℕ) (ns : List (List ℕ)) (c
     last-of-ending-keeps : p ++ (d ∷ []) ≡ q ++ render e
         → Kept (p ++ (b ∷ [])) (step (state (ending (d ∷ [])) (n ∷ ns) total ss ds) (ending (d ∷ [])) i b)
     unfolding step
-    last-of-ending-keeps written = kept_byte p b d _ none (rw (written, number) (closed place e good depth (omega arith))) kept-none
+    last-of-ending-keeps written = kept_byte p b d _ None (rw (written, number) (closed place e good depth (omega arith))) kept-none
 
     ending-keeps : (f : ℕ) (r : List ℕ) → p ++ (d ∷ f ∷ r) ≡ q ++ render e
         → Kept (p ++ (b ∷ [])) (step (state (ending (d ∷ f ∷ r)) (n ∷ ns) total ss ds) (ending (d ∷ f ∷ r)) i b)
     unfolding step
     ending-keeps f r written =
-        kept_byte p b d _ none (at-ending place e good depth number few (append_assoc p (d ∷ []) (f ∷ r) ∙ written)) kept-none
+        kept_byte p b d _ None (at-ending place e good depth number few (append_assoc p (d ∷ []) (f ∷ r) ∙ written)) kept-none
 
   between-keeps : Grown q ns c → c ≤ element_most → Kept (q ++ (b ∷ [])) (step (state between ns c ss ds) between i b)
   unfolding step
-  between-keeps g few = kept_byte q b (code "<") _ none (at-turning g few) kept-none
+  between-keeps g few = kept_byte q b (code "<") _ None (at-turning g few) kept-none
 
 turning-keeps : {q : List ℕ} {ns : List (List ℕ)} {c : ℕ} (ss ds : List ℕ) (i b : ℕ) → Grown q ns c → c ≤ element_most
     → Kept ((q ++ bytes "<") ++ (b ∷ [])) (step (state turning ns c ss ds) turning i b)
 unfolding step
 turning-keeps ss ds i b (grown {q} {n} {ns} {c} place name es goods room depths) few =
-    let front : List ℕ = q ++ (opening n none ++ render_all es) in
+    let front : List ℕ = q ++ (opening n None ++ render_all es) in
     let total : ℕ = suc c + count_all es in
     let here : Place front (n ∷ ns) total = behind (grown place name es goods room depths) in
     kept_byte (front ++ bytes "<") b (code "/") _ _ (turned n es place name goods depths few)
-    (kept-both (is_letter b) (ltb total element_most) _ none
+    (kept-both (is_letter b) (ltb total element_most) _ None
     (λ letter left. named ss ds i b front (n ∷ ns) total (record { place = here; few = ltb-true total element_most left; shallow = room }) letter)
     kept-none)
 

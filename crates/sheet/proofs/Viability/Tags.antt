@@ -1,9 +1,9 @@
 -- What tags make of the bytes: an opening tag with a Ccy, a closing tag, and a closed element that joins the one around it.
 -- Assumes nothing.
+use Rattle.std.specs.Prelude.{Some, None}
 use mathlib.Core.Path.{◌≡◌, refl, ◌∙◌}
 use mathlib.Core.Bool.{true}
 use mathlib.Core.List.{List, [], ◌∷◌, ◌++◌, append_assoc}
-use mathlib.Core.Option.{none, some}
 use Prim.Native.Nat.{ℕ, suc, ◌+◌, ◌≤◌}
 use Prim.Native.Char.{code}
 use native.Mathlib.Omega.{arith}
@@ -46,7 +46,7 @@ spelled q n t (goes {b = b0} e0 (goes {b = b1} e1 (goes {b = b2} e2 (goes {b = b
 pub tag-with-ccy : {p q n t : List ℕ} {ns : List (List ℕ)} {c : ℕ} → Room q ns c → is_name n ≡ true → Tag p q n t
     → Holds (tagged true) (p ++ t) (n ∷ ns) (suc c)
 unfolding is_ccy
-tag-with-ccy room name tag = rw tag.written (at-tagged room name (some tag.ccy) tag.capitals)
+tag-with-ccy room name tag = rw tag.written (at-tagged room name (Some tag.ccy) tag.capitals)
 
 pub one-byte-on : {p q n : List ℕ} (b : ℕ) (t : List ℕ) → Tag p q n (b ∷ t) → Tag (p ++ (b ∷ [])) q n t
 one-byte-on {p} b t tag = record { ccy = tag.ccy; capitals = tag.capitals; written = append_assoc p (b ∷ []) t ∙ tag.written }
@@ -67,12 +67,12 @@ regrouped q tag held name = simp append_assoc
 -- behind `</` the closing tag of an element with children begins
 pub turned : {q : List ℕ} {ns : List (List ℕ)} {c : ℕ} (n : List ℕ) (es : Elements) → Place q ns c → is_name n ≡ true → good_all es ≡ true
     → depth_all es + length (n ∷ ns) ≤ depth_most → suc c + count_all es ≤ element_most
-    → Holds (ending (n ++ bytes ">")) (((q ++ (opening n none ++ render_all es)) ++ bytes "<") ++ bytes "/") (n ∷ ns) (suc c + count_all es)
+    → Holds (ending (n ++ bytes ">")) (((q ++ (opening n None ++ render_all es)) ++ bytes "<") ++ bytes "/") (n ∷ ns) (suc c + count_all es)
 unfolding good_parts depth_of count_of render
 turned [] es place name goods depths few = absurd (name-not-empty name)
 turned {q} {c} (x ∷ n) es place name goods depths few =
     let number : suc c + count_all es ≡ c + suc (count_all es) = omega arith in
-    let front : List ℕ = (q ++ (opening (x ∷ n) none ++ render_all es)) ++ bytes "<" in
+    let front : List ℕ = (q ++ (opening (x ∷ n) None ++ render_all es)) ++ bytes "<" in
     let tail : List ℕ = x ∷ n ++ bytes ">" in
-    let written = append_assoc front (bytes "/") tail ∙ regrouped q (opening (x ∷ n) none) (render_all es) tail in
+    let written = append_assoc front (bytes "/") tail ∙ regrouped q (opening (x ∷ n) None) (render_all es) tail in
     at-ending place (parent (x ∷ n) es) (rw (name, goods)) (omega arith) number few written

@@ -1,9 +1,9 @@
 -- What the bytes read so far are, for each mode: the front of a sheet that is written from a partly grown tree.
 -- Assumes nothing.
+use Rattle.std.specs.Prelude.{Option, Some, None}
 use mathlib.Core.Path.{◌≡◌}
 use mathlib.Core.Bool.{true}
 use mathlib.Core.List.{List, [], ◌∷◌, ◌++◌}
-use mathlib.Core.Option.{Option, none, some}
 use Prim.Native.Nat.{ℕ, suc, ◌+◌, ◌≤◌, ◌<◌}
 use lib.ListN.{length}
 use Rattle.shape.specs.Text.{bytes}
@@ -19,13 +19,13 @@ use Rattle.sheet.proofs.Acceptance.Parts.{given}
 mutual
   pub data Place : List ℕ → List (List ℕ) → ℕ → Type 0 where
     nowhere : Place [] [] 0
-    inside : {q n : List ℕ} {ns : List (List ℕ)} {c : ℕ} → Place q ns c → is_name n ≡ true → Place (q ++ opening n none) (n ∷ ns) (suc c)
+    inside : {q n : List ℕ} {ns : List (List ℕ)} {c : ℕ} → Place q ns c → is_name n ≡ true → Place (q ++ opening n None) (n ∷ ns) (suc c)
     behind : {q : List ℕ} {ns : List (List ℕ)} {c : ℕ} → Grown q ns c → Place q ns c
 
   pub data Grown : List ℕ → List (List ℕ) → ℕ → Type 0 where
     grown : {q n : List ℕ} {ns : List (List ℕ)} {c : ℕ} → Place q ns c → is_name n ≡ true → (es : Elements) → good_all es ≡ true
         → length (n ∷ ns) < depth_most → depth_all es + length (n ∷ ns) ≤ depth_most
-        → Grown (q ++ (opening n none ++ render_all es)) (n ∷ ns) (suc c + count_all es)
+        → Grown (q ++ (opening n None ++ render_all es)) (n ∷ ns) (suc c + count_all es)
 
 -- a place where one more element may begin
 pub record Room (q : List ℕ) (ns : List (List ℕ)) (c : ℕ) : Type 0 where
@@ -42,7 +42,7 @@ pub data Follows : List ℕ → List ℕ → Type 0 where
 pub record Tag (p q n t : List ℕ) : Type 0 where
   pub ccy : List ℕ
   pub capitals : fits currency_pattern ccy ≡ true
-  pub written : p ++ t ≡ q ++ opening n (some ccy)
+  pub written : p ++ t ≡ q ++ opening n (Some ccy)
 
 -- the bytes, the open names and the number of elements begun, in each mode
 pub data Holds : Mode → List ℕ → List (List ℕ) → ℕ → Type 0 where

@@ -1,4 +1,4 @@
-use Rattle.std.proofs.Common.{◌≡◌, ℕ, ◌-◌, ◌<◌, ◌≤◌, length, ◌∷◌}
+use Rattle.std.proofs.Common.{◌≡◌, ◌-◌, ◌<◌, ◌≤◌, length, ◌∷◌}
 use Rattle.sheet.specs.Grammar.{element_most}
 use Rattle.sheet.specs.Machine.{begun}
 use Rattle.sheet.specs.Parts.{run_at, part_of}
