@@ -5,7 +5,9 @@ use mathlib.Core.Path.{◌≡◌}
 use mathlib.Core.List.{List}
 use Prim.Native.Nat.{ℕ}
 use Rattle.shape.proofs.Single.{Settled, SettledWith, by-equation}
+use Rattle.std.specs.Prelude.{Err}
 use Rattle.centre.specs.Answers.{Answer, Told, told}
+use Rattle.centre.specs.declared.answers.Refusal.{Refusal}
 use Rattle.centre.proofs.Told.{told-one}
 use Rattle.centre.proofs.calls.lay_out.Kinds as lay-out-kinds
 use Rattle.centre.proofs.calls.lay_out.Reads as lay-out-reads
@@ -41,6 +43,12 @@ use Rattle.centre.proofs.lent.read_account.Kinds as read-account-kinds
 use Rattle.centre.proofs.lent.read_account.Reads as read-account-reads
 use Rattle.centre.proofs.lent.submit_sheet.Kinds as submit-sheet-kinds
 use Rattle.centre.proofs.lent.submit_sheet.Reads as submit-sheet-reads
+use Rattle.centre.proofs.answers.RefusalFromSeatRefusal.from.Kinds as from-seat-kinds
+use Rattle.centre.proofs.answers.RefusalFromSeatRefusal.from.Reads as from-seat-reads
+use Rattle.centre.proofs.answers.RefusalFromMessageRefusal.from.Kinds as from-message-kinds
+use Rattle.centre.proofs.answers.RefusalFromMessageRefusal.from.Reads as from-message-reads
+use Rattle.centre.proofs.answers.RefusalFromSlipNoSlip.from.Kinds as from-slip-kinds
+use Rattle.centre.proofs.answers.RefusalFromSlipNoSlip.from.Reads as from-slip-reads
 use Rattle.centre.proofs.answers.Refusal.number.Kinds as number-kinds
 use Rattle.centre.proofs.answers.Refusal.number.Reads as number-reads
 use Rattle.centre.proofs.answers.Refusal.detail.Kinds as detail-kinds
@@ -123,3 +131,18 @@ number-of-refusal κs a x y e f = by-equation
 
 pub detail-of-refusal : Settled _ detail-kinds.ps detail-kinds.r detail-reads.Post
 detail-of-refusal κs a x y e f = by-equation
+
+-- what is told of a refusal settles the refusal
+one-refusal : (x y : Refusal) → told (Err x) ≡ told (Err y) → x ≡ y
+one-refusal x y e =
+    let same : Err x ≡ Err y = told-one (Err x) (Err y) e in
+    cc
+
+pub from-seat : Settled _ from-seat-kinds.ps from-seat-kinds.r from-seat-reads.Post
+from-seat κs a x y e f p q = one-refusal x y (by-equation p q)
+
+pub from-message : Settled _ from-message-kinds.ps from-message-kinds.r from-message-reads.Post
+from-message κs a x y e f p q = one-refusal x y (by-equation p q)
+
+pub from-slip : Settled _ from-slip-kinds.ps from-slip-kinds.r from-slip-reads.Post
+from-slip κs a x y e f = by-equation

@@ -45,7 +45,7 @@ pub fn gather_flat(dir: &[u64]) -> Gathered
         let Some(record) = record_in(row) else {
             return no_records();
         };
-        out = out.with(record);
+        out.add(record);
     }
     out
 }

@@ -1,4 +1,5 @@
 pub mod Finds
 pub mod Folds
 pub mod Gathers
+pub mod Turns
 pub mod Settled

@@ -2,7 +2,9 @@
 -- Assumes nothing.
 use mathlib.Core.List.{List}
 use Rattle.directory.specs.declared.Participant.{Participant}
-use Rattle.shape.proofs.Single.{Settled, SettledShown, by-equation}
+use Rattle.directory.specs.declared.Gathered.{Gathered}
+use mathlib.Core.Path.{refl}
+use Rattle.shape.proofs.Single.{Settled, SettledWith, SettledShown, by-equation}
 use Rattle.directory.proofs.fits.Kinds as fits-kinds
 use Rattle.directory.proofs.fits.Reads as fits-reads
 use Rattle.directory.proofs.is_owner.Kinds as is-owner-kinds
@@ -43,6 +45,8 @@ use Rattle.directory.proofs.find_given.Kinds as find-given-kinds
 use Rattle.directory.proofs.find_given.Reads as find-given-reads
 use Rattle.directory.proofs.no_records.Kinds as no-records-kinds
 use Rattle.directory.proofs.no_records.Reads as no-records-reads
+use Rattle.directory.proofs.Gathered.add.Kinds as add-kinds
+use Rattle.directory.proofs.Gathered.add.Reads as add-reads
 use Rattle.directory.proofs.Gathered.with.Kinds as with-kinds
 use Rattle.directory.proofs.Gathered.with.Reads as with-reads
 use Rattle.directory.proofs.Gathered.as_slice.Kinds as as-slice-kinds
@@ -107,6 +111,9 @@ find-given κs a x y e f = by-equation
 
 pub no-records : Settled _ no-records-kinds.ps no-records-kinds.r no-records-reads.Post
 no-records κs a x y e f = by-equation
+
+pub add-one-more : SettledWith _ add-kinds.ps add-kinds.r add-reads.Post Gathered (λ κs e. e.0.now)
+add-one-more κs a x y e f p q = (refl, by-equation p q)
 
 pub with-one-more : Settled _ with-kinds.ps with-kinds.r with-reads.Post
 with-one-more κs a x y e f = by-equation

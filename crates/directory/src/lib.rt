@@ -66,17 +66,27 @@ pub fn no_records() -> Gathered
 }
 
 impl Gathered {
-    // One record more: in the next place while there is one, and counted in any case.
+    // One record more: in the next place while there is one, and counted in any case. In place, so that a long directory is gathered without a copy
+    // of the records for each of its own.
     #[tactic(auto, unfolding(crate::specs::Gathering::added))]
+    pub fn add(&mut self, p: Participant)
+        requires { self.old.count < 2 ^ 63 }
+        ensures { self.new ≡ added self.old p }
+    {
+        let at = self.count;
+        if at < RECORDS_MOST {
+            self.records[at] = p;
+        }
+        self.count = at + 1;
+    }
+
+    // The same, as a value.
     pub fn with(self, p: Participant) -> Gathered
         requires { self.count < 2 ^ 63 }
         ensures { result ≡ added self p }
     {
         let mut next = self;
-        if self.count < RECORDS_MOST {
-            next.records[self.count] = p;
-        }
-        next.count = self.count + 1;
+        next.add(p);
         next
     }
 
@@ -95,7 +105,7 @@ pub fn gather(dir: &[Participant]) -> Gathered
 {
     let mut out = no_records();
     for p in dir {
-        out = out.with(*p);
+        out.add(*p);
     }
     out
 }

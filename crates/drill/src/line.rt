@@ -55,15 +55,17 @@ pub fn line_of(text: &[u8]) -> Line<'_> {
     let (word, _) = cut(text, b' ');
     let head = head_of(text, word);
     let mut values = [0u64; NUMBERS_MOST];
-    for (value, digits) in values.iter_mut().zip(words(head).skip(1)) {
+    let mut count = 0;
+    for (place, (value, digits)) in (1..).zip(values.iter_mut().zip(words(head).skip(1))) {
         *value = number(digits);
+        count = place;
     }
     Line {
         text,
         word,
         head,
         values,
-        count: words(head).skip(1).count().min(NUMBERS_MOST),
+        count,
     }
 }
 

@@ -72,6 +72,12 @@ pub waits-row : (s : List ℕ) (k : ℕ) (x : Step) → waits s k x ≡ true →
 unfolding waits
 waits-row s k x e = and_left (is_waiting x) (not (is_answered (answer_to s k))) e
 
+-- the step that is answered has a place
+pub answered-below : (x : Step) (s : List ℕ) (h : Head) → h ≡ head_of s → (head_of s).steps ≤ steps → x.answers ≤ h.steps → x.answers - 1 < steps
+answered-below x s h read few early =
+    let count : h.steps ≡ (head_of s).steps = ap (λ (g : Head). g.steps) read in
+    omega (arith, count)
+
 -- the row that tells what has become of a step: that of its answer, else its own
 module _ (s : List ℕ) (k : ℕ) where
   pub told-within : (head_of s).steps ≤ steps → k < steps → unwrap_or (answer_to s k) k < steps

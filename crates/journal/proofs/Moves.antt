@@ -1,10 +1,12 @@
--- What the code that works a step forward or back asks of the accounts that it changes.
+-- What the code that works a step forward or back asks of the accounts that it changes, and of the place of the last step.
 -- Assumes nothing.
 use mathlib.Core.Path.{◌≡◌, sym, ap, ◌∙◌}
 use mathlib.Core.Bool.{true}
 use mathlib.Core.List.{List}
-use Prim.Native.Nat.{ℕ, ◌≤◌, ◌<◌}
+use Prim.Native.Nat.{ℕ, ◌-◌, ◌≤◌, ◌<◌}
+use native.Mathlib.Omega.{arith}
 use borrow.Author.Tests.{eq-eqb, ne_eqb}
+use Rattle.slip.specs.Meaning.{steps}
 use Rattle.layout.specs.declared.rows.Account.{Account}
 use Rattle.layout.specs.declared.rows.Step.{Step}
 use Rattle.layout.specs.Seat.{accounts, account_of, with_account}
@@ -26,3 +28,7 @@ set-named x fits sets = set-account x fits (eq-eqb x.kind set_kind sets)
 pub sides-named : (x : Step) → step_fits x ≡ true → (x.kind ≡ set_kind → ⊥) → true ≡ moves x
     → (x.debit < accounts) × (x.credit < accounts) × (x.amount ≤ amount_most)
 sides-named x fits other moving = moved-within x fits (ne_eqb x.kind set_kind other) (sym moving)
+
+-- the last step has a place
+pub last-below : (n : ℕ) → 1 ≤ n → n ≤ steps → n - 1 < steps
+last-below n some most = omega arith

@@ -8,7 +8,7 @@ use mathlib.Core.List.{List, [], append-nil}
 use Prim.Native.Nat.{ℕ, ◌≤◌, ◌<◌, ◌-◌}
 use native.Mathlib.Omega.{arith}
 use lib.Dec.{ltb}
-use lib.ListN.{length}
+use lib.ListN.{length, length-take}
 use borrow.Author.Tests.{ltb-true, ltb-false}
 use Rattle.directory.specs.declared.Participant.{Participant}
 use Rattle.directory.specs.declared.Gathered.{Gathered}
@@ -20,7 +20,7 @@ use Rattle.centre.specs.declared.Ticket.{Ticket}
 use Rattle.centre.specs.Calls.{open_told, open_after, set_told, set_after, read_told}
 use Rattle.centre.specs.Submit.{submit_told, submit_after, submit_slip}
 use Rattle.centre.proofs.LentDirectories.{unfit_told, open-unfit, open-unfit-room, set-unfit, set-unfit-room, read-unfit, submit-unfit, submit-unfit-room, submit-unfit-slip}
-use Rattle.lender.specs.Lending.{lent_in}
+use Rattle.lender.specs.Lending.{lent_count, lent_in}
 
 -- no more records than places: nothing stands behind them
 directory-few : (g : Gathered) → g.count ≤ 16 → directory_in g ≡ records_in g
@@ -40,6 +40,14 @@ unfit-many g sixteen many = sym (directory-fit g sixteen) ∙ by-fit (fit_gather
     by-fit : (fit : Bool) → fit_gathered g ≡ fit → fit ≡ false
     by-fit true e = let few = few-gathered g e in absurd (omega arith)
     by-fit false e = refl
+
+-- as many are lent as are counted, or none
+pub lent-count : (g : Gathered) → length g.records ≡ 16 → lent_count g ≡ length (lent_in g)
+lent-count g sixteen = by_count (ltb 16 g.count) refl
+  where
+    by_count : (many : Bool) → ltb 16 g.count ≡ many → lent_count g ≡ length (lent_in g)
+    by_count true e = rw e
+    by_count false e = let few = ltb-false 16 g.count e in rw e (omega (arith, length-take g.count g.records))
 
 -- what is the same of all unfit directories is the same of the records that are lent and of the directory
 pub by-lent : {X : Type 0} (says : List Participant → X) (unfit : X) → ((dir : List Participant) → is_fit dir ≡ false → says dir ≡ unfit)

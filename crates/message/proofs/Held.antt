@@ -24,14 +24,18 @@ use Rattle.message.specs.Received.{no_spot}
 use Rattle.message.specs.Seen.{held_at, leaf_held}
 
 module _ (s : List ℕ) (count start : ℕ) where
-  -- what does not stand once is no leaf
-  pub leaf-elsewhere : (count ≡ 1 → ⊥) → None ≡ leaf_held (held_at s count start)
+  -- what is the same of nothing and of two elements is so of all that does not stand once
+  pub elsewhere : {A : Type 0} (f : Held → A) (x : A) → x ≡ f missing → x ≡ f doubled → (count ≡ 1 → ⊥) → x ≡ f (held_at s count start)
   unfolding held_at
-  leaf-elsewhere q = rw (ne_eqb count 1 q) (pick (eqb count 0))
+  elsewhere f x m d q = rw (ne_eqb count 1 q) (pick (eqb count 0))
     where
-      pick : (t : Bool) → None ≡ leaf_held (cond t missing doubled)
-      pick true = refl
-      pick false = refl
+      pick : (t : Bool) → x ≡ f (cond t missing doubled)
+      pick true = m
+      pick false = d
+
+  -- so it is no leaf
+  pub leaf-elsewhere : (count ≡ 1 → ⊥) → None ≡ leaf_held (held_at s count start)
+  leaf-elsewhere q = elsewhere leaf_held None refl refl q
 
   -- what stands once is the element there
   pub leaf-once : count ≡ 1 → leaf_of s start ≡ leaf_held (held_at s count start)

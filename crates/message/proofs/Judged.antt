@@ -4,7 +4,10 @@ use Rattle.std.specs.Prelude.{ℕ, Option, Some, None, Ok}
 use mathlib.Core.Path.{◌≡◌, refl, sym, ap, ◌∙◌}
 use mathlib.Core.Bool.{Bool, true, false, cond, false≢true}
 use mathlib.Core.List.{List, map}
+use Prim.Native.Nat.{◌+◌, ◌-◌, ◌≤◌}
+use native.Mathlib.Omega.{arith}
 use lib.Dec.{eqb}
+use lib.ListN.{length, replicate, length-append, length-replicate}
 use borrow.Author.Tests.{eq-eqb, ne_eqb}
 use Rattle.std.proofs.lemmas.Bool.{eqb-true}
 use Rattle.shape.specs.Fields.{currency_of}
@@ -13,13 +16,19 @@ use Rattle.message.specs.declared.Refusal.TheVariants.{BadField}
 use Rattle.message.specs.declared.found.Spot.{Spot}
 use Rattle.message.specs.declared.Message.{Message}
 use Rattle.message.specs.declared.Received.{Received}
-use Rattle.message.specs.Fields.{Field, fields_of, numbers_of}
+use Rattle.message.specs.Fields.{Field, fields_of, fields_most, numbers_of}
 use Rattle.message.specs.Good.{is_given, lowest_bad}
 use Rattle.message.specs.Message.{ccy_in, spot_in, numbered, message_from, message_of}
-use Rattle.message.specs.Received.{by_number, refusal, received_in, shown_in}
+use Rattle.message.specs.Received.{no_spot, by_number, refusal, received_in, shown_in}
 use Rattle.message.specs.Seen.{held_seen, bad_number}
 use Rattle.message.proofs.Turns.{seen_at}
 use Rattle.message.proofs.Stands.{Stands, seen_stands, all-stand, message-shown}
+
+-- an array by number has a place for each number
+pub numbers_fit : (at spots : List Spot) → at ≡ by_number spots → fields_most + 1 ≤ length at
+numbers_fit at spots e =
+    let left = fields_most - length spots in
+    rw e (omega (arith, length-append spots (replicate left no_spot), length-replicate left no_spot))
 
 -- what the number of the first bad field says
 abbrev number_in : ℕ → Option ℕ → ℕ

@@ -1,4 +1,5 @@
 pub mod Absent
+pub mod Amounts
 pub mod Beside
 pub mod Built
 pub mod Due

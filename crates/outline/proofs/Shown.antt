@@ -16,6 +16,14 @@ use Rattle.outline.specs.Places.{text_end, parts_of, leaf_of}
 use Rattle.outline.specs.declared.Parts.{Parts}
 use Rattle.sheet.proofs.While.{take_while, while-inside}
 
+-- the places of any element's parts stand in the sheet: those of its Ccy, where it has one, where its content begins, and where its text
+-- ends, where it has one
+pub record Stands (s : List ℕ) (p : Parts) : Type 0 where
+  pub ccy-within : p.ccy ≡ true → p.to + 9 ≤ length s
+  pub inside-within : p.inside ≤ length s
+  pub forward : (end : ℕ) → p.text ≡ Some end → p.inside ≤ end
+  pub end-within : (end : ℕ) → p.text ≡ Some end → end ≤ length s
+
 -- what the places of an element with a text show. They stand in the sheet: those of its Ccy, where it has one, and those of its text
 pub record Shows (s : List ℕ) (a : ℕ) (p : Parts) (end : ℕ) : Type 0 where
   pub inside-sheet : p.to < length s
@@ -69,6 +77,31 @@ text-forward s a = omega arith
 text-within : (s : List ℕ) (a : ℕ) → inside_at s a ≤ length s → text_end s a ≤ length s
 unfolding text_end
 text-within s a h = while-inside is_text s (inside_at s a) h
+
+text-ends : (v : Bool) (t end : ℕ) → cond v (Some t) None ≡ Some end → t ≡ end
+text-ends true t end e = cc
+text-ends false t end e = absurd (no-nothing e)
+
+whole-parts-stand : (s : List ℕ) (a : ℕ) (v : Bool) → inside_at s a ≤ length s → Stands s (whole_parts s a v)
+unfolding whole_parts
+whole-parts-stand s a v h = record {
+  ccy-within = λ c. omega (arith, h, ccy-before s a c);
+  inside-within = h;
+  forward = λ end e. omega (arith, text-forward s a, text-ends v (text_end s a) end e);
+  end-within = λ end e. omega (arith, text-within s a h, text-ends v (text_end s a) end e);
+}
+
+stand-if : (s : List ℕ) (a : ℕ) (p : Parts) (t u v : Bool) → ltb (length s) (inside_at s a) ≡ u
+    → Some p ≡ cond (t || u) None (Some (whole_parts s a v)) → Stands s p
+stand-if s a p true u v f e = absurd (no-nothing (sym e))
+stand-if s a p false true v f e = absurd (no-nothing (sym e))
+stand-if s a p false false v f e =
+    let same : p ≡ whole_parts s a v = cc in
+    rw same (whole-parts-stand s a v (ltb-false (length s) (inside_at s a) f))
+
+pub stands : (s : List ℕ) (a : ℕ) (p : Parts) → Some p ≡ parts_of s a → Stands s p
+unfolding parts_of whole_parts
+stands s a p e = stand-if s a p (leb (length s) a) (ltb (length s) (inside_at s a)) (has_text s a) refl e
 
 -- the element's parts are those, and its text ends there
 module _ (s : List ℕ) (a : ℕ) (p : Parts) where

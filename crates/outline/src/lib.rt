@@ -9,7 +9,7 @@ ghost use Rattle.outline.specs.Rows.{name_at};
 ghost use Rattle.outline.specs.Places.{parts_of, leaf_shown, leaf_of};
 
 use shape::byte::peek;
-use sheet::{Ahead, name_bytes_end, next_at};
+use sheet::{Ahead, name_bytes_end, next_at, shown_at};
 
 // What follows a name in its opening tag: `>`, or ` Ccy="UAH">`.
 const PLAIN_END: usize = 1;
@@ -91,10 +91,10 @@ pub fn leaf_at(s: &[u8], start: usize) -> Option<Leaf<'_>>
     let parts = parts_at(s, start)?;
     let end = parts.text?;
     let inside = parts.inside;
-    let text = &s[inside..end];
+    let text = shown_at(s, inside, end - inside);
     if parts.ccy {
         return Some(Leaf {
-            ccy: Some(&s[parts.to + CCY_FROM..parts.to + CCY_TO]),
+            ccy: Some(shown_at(s, parts.to + CCY_FROM, CCY_TO - CCY_FROM)),
             inside,
             text,
         });

@@ -18,7 +18,8 @@ pub const REFUSED_FROM: u64 = 1_000_000;
 pub fn damvurit_read_sheet(s: &[u8], which: usize) -> u64
     ensures { result ≡ number_at (reading_of s.now) which }
 {
-    match sheet::read(s) {
+    // By reference, so that the lists are read where they stand.
+    match &sheet::read(s) {
         Ok(sheet) if which < ELEMENT_MOST => sheet.starts[which] as u64,
         Ok(sheet) if which < 2 * ELEMENT_MOST => sheet.depths[which - ELEMENT_MOST] as u64,
         Ok(sheet) => sheet.count as u64,

@@ -2,7 +2,7 @@
 -- Assumes nothing.
 use Rattle.std.specs.Prelude.{Some, None}
 use mathlib.Core.Path.{◌≡◌, refl, sym, ◌∙◌}
-use mathlib.Core.Bool.{Bool, true, false, ◌&&◌, cond}
+use mathlib.Core.Bool.{Bool, true, false, not, ◌&&◌, ◌||◌, cond, false≢true}
 use mathlib.Core.List.{List, [], ◌∷◌}
 use Prim.Native.Nat.{ℕ, suc, ◌+◌, ◌-◌, ◌*◌, ◌^◌, ◌≤◌, ◌<◌}
 use native.Mathlib.Omega.{arith}
@@ -108,3 +108,14 @@ sum_below s n e = by-test (has_point s) e
         → cond t (sum_from (take (length s - 3) s) (drop (length s - 2) s)) (sum_from s (bytes "00")) ≡ Some n → n < 10 ^ (sum_digits_most + 2)
     by-test true e = parts_below (take (length s - 3) s) (drop (length s - 2) s) n e
     by-test false e = parts_below s (bytes "00") n e
+
+-- one of two dashes is missing, or none is
+pub missing : (a b : Bool) → (not a || not b) ≡ true → (a && b) ≡ false
+missing true true e = absurd (false≢true e)
+missing true false e = refl
+missing false b e = refl
+
+pub both : (a b : Bool) → (not a || not b) ≡ false → (a && b) ≡ true
+both true true e = refl
+both true false e = absurd (false≢true (sym e))
+both false b e = absurd (false≢true (sym e))

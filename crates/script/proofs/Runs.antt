@@ -1,4 +1,4 @@
--- How far the definitions of places reach, and where a text ends that is one byte shorter.
+-- How far the definitions of places reach, and where a text ends that is one byte shorter. Texts of two lengths are two texts.
 -- Assumes nothing.
 use mathlib.Core.Path.{◌≡◌, refl, sym, ap, ◌∙◌}
 use mathlib.Core.Bool.{Bool, true, false, not, ◌&&◌, cond}
@@ -10,7 +10,7 @@ use lib.ListN.{length, get_or, take, drop, length-take, length-drop}
 use lib.Seq.{drop-cons, take-suc, take-length}
 use borrow.Author.Tests.{ne_eqb}
 use Rattle.shape.proofs.Tests.{and-false}
-use Rattle.script.specs.Places.{is_blank, run, skip_blanks, word_end, found, line_end, text_end}
+use Rattle.script.specs.Places.{is_blank, run, skip_blanks, word_end, found, line_end, text_end, is_same}
 
 pub run_short : (f : ℕ → Bool) (s : List ℕ) → run f s ≤ length s
 run_short f [] = omega arith
@@ -47,6 +47,14 @@ module _ (s : List ℕ) (i : ℕ) where
   pub line-within : i ≤ length s → line_end s i ≤ length s
   unfolding line_end found
   line-within h = run-within (λ (b : ℕ). not (eqb b 10)) s i h
+
+-- a text of another length is another text
+pub other_length : (p s : List ℕ) → (length p ≡ length s → ⊥) → is_same p s ≡ false
+unfolding is_same
+other_length [] [] h = absurd (h refl)
+other_length [] (b ∷ s) h = refl
+other_length (a ∷ p) [] h = refl
+other_length (a ∷ p) (b ∷ s) h = and-false (eqb a b) (is_same p s) (other_length p s (λ e. h (ap suc e)))
 
 -- a blank behind a text does not move its end
 blank-behind : (s : List ℕ) (b : ℕ) → is_blank b ≡ true → text_end (s ++ (b ∷ [])) ≡ text_end s

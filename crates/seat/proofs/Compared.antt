@@ -5,13 +5,14 @@ use Rattle.std.specs.Cmp.Lexicographic.{pointwise}
 use mathlib.Core.Path.{◌≡◌, refl, ap, subst}
 use mathlib.Core.Bool.{Bool, false, ◌&&◌}
 use mathlib.Core.List.{List, [], ◌∷◌}
-use Prim.Native.Nat.{ℕ, ◌-◌, ◌≤◌, ◌<◌}
+use Prim.Native.Nat.{ℕ, suc, ◌-◌, ◌≤◌, ◌<◌}
 use native.Mathlib.Omega.{arith}
 use lib.Dec.{eqb}
 use lib.ListN.{length, get_or, take, drop, replicate}
 use lib.Seq.{take_all}
 use borrow.Author.Tests.{eq-eqb, le-leb, lt-leb}
 use Rattle.shape.specs.Bytes.{every}
+use Rattle.shape.proofs.Tests.{and-false}
 use Rattle.slip.specs.Meaning.{openings}
 use Rattle.layout.specs.Parts.{part}
 use Rattle.layout.specs.Rows.{head_row, head_in}
@@ -25,6 +26,14 @@ same-pointwise [] [] = refl
 same-pointwise [] (b ∷ t) = refl
 same-pointwise (a ∷ s) [] = refl
 same-pointwise (a ∷ s) (b ∷ t) = ap (λ (rest : Bool). eqb a b && rest) (same-pointwise s t)
+
+-- lists of different lengths are not the same
+pub unlike : (s t : List ℕ) → (length s ≡ length t → ⊥) → same s t ≡ false
+unfolding same
+unlike [] [] h = absurd (h refl)
+unlike [] (b ∷ t) h = refl
+unlike (a ∷ s) [] h = refl
+unlike (a ∷ s) (b ∷ t) h = and-false (eqb a b) (same s t) (unlike s t (λ e. h (ap suc e)))
 
 -- a list is the same as that many zeros where each of its numbers is zero
 abbrev pub is_zero : ℕ → Bool

@@ -63,10 +63,14 @@ use Rattle.shape.proofs.stored.identifier_of.Kinds as identifier-of-kinds
 use Rattle.shape.proofs.stored.identifier_of.Reads as identifier-of-reads
 use Rattle.shape.proofs.stored.text_of.Kinds as text-of-kinds
 use Rattle.shape.proofs.stored.text_of.Reads as text-of-reads
+use Rattle.shape.proofs.stored.same_identifier.Kinds as same-identifier-kinds
+use Rattle.shape.proofs.stored.same_identifier.Reads as same-identifier-reads
 use Rattle.shape.proofs.stored.is_uetr.Kinds as is-uetr-kinds
 use Rattle.shape.proofs.stored.is_uetr.Reads as is-uetr-reads
 use Rattle.shape.proofs.stored.uetr_of.Kinds as uetr-of-kinds
 use Rattle.shape.proofs.stored.uetr_of.Reads as uetr-of-reads
+use Rattle.shape.proofs.stored.same_uetr.Kinds as same-uetr-kinds
+use Rattle.shape.proofs.stored.same_uetr.Reads as same-uetr-reads
 
 pub is_digit : Settled _ is-digit-kinds.ps is-digit-kinds.r is-digit-reads.Post
 is_digit κs a x y e f = by-equation
@@ -161,8 +165,14 @@ identifier-of κs a x y e f = by-equation
 pub text_of : Settled _ text-of-kinds.ps text-of-kinds.r text-of-reads.Post
 text_of κs a x y e f = by-equation
 
+pub same-identifier : Settled _ same-identifier-kinds.ps same-identifier-kinds.r same-identifier-reads.Post
+same-identifier κs a x y e f = by-equation
+
 pub is-uetr : Settled _ is-uetr-kinds.ps is-uetr-kinds.r is-uetr-reads.Post
 is-uetr κs a x y e f = by-equation
 
 pub uetr-of : Settled _ uetr-of-kinds.ps uetr-of-kinds.r uetr-of-reads.Post
 uetr-of κs a x y e f = by-equation
+
+pub same-uetr : Settled _ same-uetr-kinds.ps same-uetr-kinds.r same-uetr-reads.Post
+same-uetr κs a x y e f = by-equation

@@ -1,7 +1,7 @@
 // Identifiers and UETRs as whole numbers, for storing and comparing. All zeros stand for no text.
 ghost use Rattle.std.specs.Prelude.{◌≡◌, ◌<◌, ◌≤◌, ◌+◌, ◌*◌, ◌^◌, length};
-ghost use Rattle.shape.specs.Stored.{stored_bytes, seven_from, identifier_of, before_zero, seven_bytes, all_bytes, stored_text};
-ghost use Rattle.shape.specs.Stored.{group_bits, four_from, groups, is_uetr, uetr_of};
+ghost use Rattle.shape.specs.Stored.{stored_bytes, seven_from, identifier_of, same_identifier, before_zero, seven_bytes, all_bytes, stored_text};
+ghost use Rattle.shape.specs.Stored.{group_bits, four_from, groups, is_uetr, uetr_of, same_uetr};
 
 use crate::byte::peek;
 use crate::field::{IDENTIFIER_MOST, is_identifier};
@@ -133,6 +133,14 @@ pub fn text_of(x: Identifier) -> Text
     }
 }
 
+// What `==` of two identifiers says: all five numbers are the same.
+#[tactic(auto, unfolding(crate::specs::Stored::same_identifier))]
+pub fn same_identifier(x: Identifier, y: Identifier) -> bool
+    ensures { result ≡ same_identifier x y }
+{
+    x == y
+}
+
 // Whether the text has the pattern of a UUID version 4 in small letters.
 #[tactic(auto, unfolding(crate::specs::Stored::is_uetr, crate::specs::Patterns::uetr_pattern))]
 pub fn is_uetr(s: &[u8]) -> bool
@@ -182,4 +190,12 @@ pub fn uetr_of(s: &[u8]) -> Uetr
         };
     }
     NO_UETR
+}
+
+// What `==` of two UETRs says: both numbers are the same.
+#[tactic(auto, unfolding(crate::specs::Stored::same_uetr))]
+pub fn same_uetr(x: Uetr, y: Uetr) -> bool
+    ensures { result ≡ same_uetr x y }
+{
+    x == y
 }

@@ -1,4 +1,5 @@
 pub mod Meanings
+pub mod Ranges
 pub mod Small
 pub mod Bytes
 pub mod Forms

@@ -1,14 +1,16 @@
--- What a slip may say: a test of the whole table holds of whatever the table may say, and six bytes may say what five may and more.
+-- What a slip may say: a test of the whole table holds of whatever the table may say, six bytes may say what five may and more, and no slip
+-- may name a check past the last one.
 -- Assumes nothing.
 use mathlib.Core.Path.{◌≡◌, refl, sym}
-use mathlib.Core.Bool.{Bool, true, ◌&&◌, ◌||◌, or_assoc, false≢true}
+use mathlib.Core.Bool.{Bool, true, false, ◌&&◌, ◌||◌, or_assoc, false≢true}
 use mathlib.Core.List.{List, [], ◌∷◌, ◌++◌}
-use Prim.Native.Nat.{ℕ}
-use lib.Dec.{eqb}
-use borrow.Author.Tests.{eqb-true}
+use Prim.Native.Nat.{ℕ, ◌<◌, ◌≤◌}
+use native.Mathlib.Omega.{arith}
+use lib.Dec.{leb, eqb}
+use borrow.Author.Tests.{leb-true, eqb-true}
 use Rattle.shape.specs.Bytes.{every}
 use Rattle.shape.proofs.Tests.{and_left, and_right, or_cases}
-use Rattle.table.specs.Checks.{is_in}
+use Rattle.table.specs.Checks.{checks_most, is_in}
 use Rattle.table.proofs.Rules.{of_entry}
 use Rattle.slip.specs.declared.Form.TheVariants.{SixBytes}
 use Rattle.slip.specs.Meaning.{Saying, either_says, six_alone_says, sayings, says_in, measures}
@@ -47,3 +49,23 @@ pub says_in_six : (kind status check : ℕ)
     → (says_in either_says kind status check || says_in six_alone_says kind status check) ≡ says_in (measures SixBytes).sayings kind status check
 unfolding sayings
 says_in_six kind status check = sym (says_both either_says six_alone_says kind status check)
+
+-- law: a table whose checks are all in the table of checks says nothing with a check past the last one
+none-past : (xs : List Saying) → every (of_saying (λ (k s c : ℕ). leb c checks_most)) xs ≡ true
+    → (kind status check : ℕ) → checks_most < check → says_in xs kind status check ≡ false
+none-past xs t kind status check h = go (says_in xs kind status check) refl
+  where
+    go : (b : Bool) → says_in xs kind status check ≡ b → b ≡ false
+    go true e = absurd (past (leb-true check checks_most (of-sayings (λ (k s c : ℕ). leb c checks_most) xs t kind status check e)))
+      where
+        past : check ≤ checks_most → ⊥
+        past l = omega arith
+    go false e = refl
+
+pub either-none-past : (kind status check : ℕ) → checks_most < check → says_in either_says kind status check ≡ false
+unfolding either_says
+either-none-past = none-past either_says refl
+
+pub six-alone-none-past : (kind status check : ℕ) → checks_most < check → says_in six_alone_says kind status check ≡ false
+unfolding six_alone_says
+six-alone-none-past = none-past six_alone_says refl

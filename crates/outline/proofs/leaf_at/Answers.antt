@@ -1,5 +1,6 @@
 -- By the places of the element's parts, which stand in the sheet where it holds a text.
-use Rattle.std.proofs.Common.{arith}
+use Rattle.std.proofs.Common.{arith, ◌≡◌, ◌+◌, ◌-◌}
+use Rattle.sheet.proofs.Parted.{part-there}
 use Rattle.outline.proofs.Shown.{Shows, text-there, text-missing, parts-missing, leaf-missing, leaf-without-ccy, leaf-with-ccy}
 use Rattle.outline.proofs.leaf_at.Goals.{In_ok-end}
 use Rattle.outline.proofs.leaf_at.Goals as goal
@@ -17,35 +18,36 @@ returns-in_err-end c =
     (leaf-missing c.args.s.now c.args.start
     (text-missing c.args.s.now c.args.start c.in_ok-parts.parts c.in_ok-parts.ensures c.in_err-end.was))
 
-pub slice_bounds-text-count : goal.slice_bounds-text-count
-slice_bounds-text-count c = (there c).forward
+pub overflow_sub-end : goal.overflow_sub-end
+overflow_sub-end c = (there c).forward
 
-pub slice_bounds-text-start : goal.slice_bounds-text-start
-slice_bounds-text-start c = (there c).forward
-
-pub slice_bounds-text-end : goal.slice_bounds-text-end
-slice_bounds-text-end c = (there c).end-within
-
-pub overflow_add-result : goal.overflow_add-result
-overflow_add-result c =
+pub overflow_add-parts : goal.overflow_add-parts
+overflow_add-parts c =
     let within = (text-there c.args.s.now c.args.start c.in_ok-parts.parts c.in_ok-end.end c.in_ok-parts.ensures c.in_ok-end.was).ccy-within c.if-parts.true in
     omega (arith, within, c.well_formed.0)
-
-pub overflow_add-result-then-parts : goal.overflow_add-result-then-parts
-overflow_add-result-then-parts c =
-    let within = (text-there c.args.s.now c.args.start c.in_ok-parts.parts c.in_ok-end.end c.in_ok-parts.ensures c.in_ok-end.was).ccy-within c.if-parts.true in
-    omega (arith, within, c.well_formed.0)
-
-pub slice_bounds-result-end : goal.slice_bounds-result-end
-slice_bounds-result-end c =
-    (text-there c.args.s.now c.args.start c.in_ok-parts.parts c.in_ok-end.end c.in_ok-parts.ensures c.in_ok-end.was).ccy-within c.if-parts.true
 
 pub returns-then-parts : goal.returns-then-parts
 returns-then-parts c =
-    leaf-with-ccy (text-there c.args.s.now c.args.start c.in_ok-parts.parts c.in_ok-end.end c.in_ok-parts.ensures c.in_ok-end.was)
-    c.if-parts.true
+    let s = c.args.s.now in
+    let p = c.in_ok-parts.parts in
+    let end = c.in_ok-end.end in
+    let shows = text-there s c.args.start p end c.in_ok-parts.ensures c.in_ok-end.was in
+    let ccy = shows.ccy-within c.if-parts.true in
+    let shown = leaf-with-ccy {s = s} {a = c.args.start} {p = p} {end = end} shows c.if-parts.true in
+    let three : (p.to + 9) - (p.to + 6) ≡ 3 = omega arith in
+    rw (
+      c.shown_at.ensures,
+      c.shown_at-text.ensures,
+      part-there s (p.to + 6) 3 (omega (arith, ccy)),
+      part-there s p.inside (end - p.inside) (omega (arith, shows.forward, shows.end-within)),
+    )
+    (rw three at shown)
 
 pub returns : goal.returns
 returns c =
-    leaf-without-ccy (text-there c.args.s.now c.args.start c.in_ok-parts.parts c.in_ok-end.end c.in_ok-parts.ensures c.in_ok-end.was)
-    c.if-parts.false
+    let s = c.args.s.now in
+    let p = c.in_ok-parts.parts in
+    let end = c.in_ok-end.end in
+    let shows = text-there s c.args.start p end c.in_ok-parts.ensures c.in_ok-end.was in
+    rw (c.shown_at-text.ensures, part-there s p.inside (end - p.inside) (omega (arith, shows.forward, shows.end-within)))
+    (leaf-without-ccy shows c.if-parts.false)

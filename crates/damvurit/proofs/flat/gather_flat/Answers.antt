@@ -34,12 +34,12 @@ loop-row-preserved c =
       next = omega (arith, s.0);
       finite = tt;
       size = s.0 ∙ c.loop-row.invariant.size;
-      few = rw (c.with-out.ensures, one-more)
+      few = rw (c.add.ensures, one-more)
           (omega (arith, left, length-append c.in-Some.row.now (chunks_rest c.next.new.self), s.1.1, s.1.2));
       rest = c.loop-row.invariant.rest ∙ ap (gathered_behind c.loop-row.out) s.1.0
           ∙ row-there c.loop-row.out c.in-Some.row.now (chunks_rest c.next.new.self) c.in-Some-record_in.record
           (sym c.record_in.ensures ∙ c.in-Some-record_in.is)
-          ∙ ap (λ (g : Gathered). gathered_behind g (chunks_rest c.next.new.self)) (sym c.with-out.ensures);
+          ∙ ap (λ (g : Gathered). gathered_behind g (chunks_rest c.next.new.self)) (sym c.add.ensures);
     }
 
 pub returns : goal.returns
