@@ -3,6 +3,7 @@
 -- Assumes nothing.
 use mathlib.Core.Path.{◌≡◌, refl}
 use native.Mathlib.Omega.{arith}
+use mathlib.Core.List.{[]}
 use Prim.Native.Nat.{ℕ, ◌≤◌}
 use lib.ListN.{replicate}
 use Rattle.std.specs.Prelude.{Ok, Err}
@@ -10,6 +11,7 @@ use Rattle.slip.specs.declared.Slip.{Slip}
 use Rattle.layout.specs.declared.rows.Account.{Account}
 use Rattle.layout.specs.Rows.{account_row}
 use Rattle.centre.specs.declared.answers.Done.TheVariants.{Plain, Opened, Holds, Says}
+use Rattle.centre.specs.declared.answers.Refusal.{Refusal}
 use Rattle.centre.specs.declared.answers.Refusal.TheVariants.{
   RoomUnfit,
   DirectoryUnfit,
@@ -27,25 +29,30 @@ use Rattle.centre.specs.declared.answers.Refusal.TheVariants.{
 use Rattle.centre.specs.Answers.{Answer, told, slip_values}
 use Rattle.damvurit.specs.Boundary.{out_of, opening_in, seven, six}
 
--- each answer but one gives no opening number, each but one no account, each but one no slip
+-- a refusal gives no values
+no-values : (refusal : Refusal) → [] ≡ (told (Err refusal)).values
+unfolding told
+no-values RoomUnfit = refl
+no-values DirectoryUnfit = refl
+no-values NoTicket = refl
+no-values AlreadyOpen = refl
+no-values NoOpeningLeft = refl
+no-values BadNumber = refl
+no-values (IllFormed place) = refl
+no-values (BadField number) = refl
+no-values JournalFull = refl
+no-values NothingToTakeBack = refl
+no-values NoSlip = refl
+no-values (NotTaken check) = refl
+
+-- so each answer but one gives no opening number, each but one no account, each but one no slip
 pub no-opening : (answer : Answer) → ((opening : ℕ) → answer ≡ Ok (Opened opening) → ⊥) → 0 ≡ opening_in (told answer)
 unfolding told out_of slip_values account_row
 no-opening (Ok Plain) other = refl
 no-opening (Ok (Opened opening)) other = absurd (other opening refl)
 no-opening (Ok (Holds account)) other = refl
 no-opening (Ok (Says slip)) other = refl
-no-opening (Err RoomUnfit) other = refl
-no-opening (Err DirectoryUnfit) other = refl
-no-opening (Err NoTicket) other = refl
-no-opening (Err AlreadyOpen) other = refl
-no-opening (Err NoOpeningLeft) other = refl
-no-opening (Err BadNumber) other = refl
-no-opening (Err (IllFormed place)) other = refl
-no-opening (Err (BadField number)) other = refl
-no-opening (Err JournalFull) other = refl
-no-opening (Err NothingToTakeBack) other = refl
-no-opening (Err NoSlip) other = refl
-no-opening (Err (NotTaken check)) other = refl
+no-opening (Err refusal) other = rw (← no-values refusal)
 
 pub no-account : (answer : Answer) → ((account : Account) → answer ≡ Ok (Holds account) → ⊥) → replicate 7 0 ≡ seven (told answer)
 unfolding told out_of slip_values account_row
@@ -53,18 +60,7 @@ no-account (Ok Plain) other = refl
 no-account (Ok (Opened opening)) other = refl
 no-account (Ok (Holds account)) other = absurd (other account refl)
 no-account (Ok (Says slip)) other = refl
-no-account (Err RoomUnfit) other = refl
-no-account (Err DirectoryUnfit) other = refl
-no-account (Err NoTicket) other = refl
-no-account (Err AlreadyOpen) other = refl
-no-account (Err NoOpeningLeft) other = refl
-no-account (Err BadNumber) other = refl
-no-account (Err (IllFormed place)) other = refl
-no-account (Err (BadField number)) other = refl
-no-account (Err JournalFull) other = refl
-no-account (Err NothingToTakeBack) other = refl
-no-account (Err NoSlip) other = refl
-no-account (Err (NotTaken check)) other = refl
+no-account (Err refusal) other = rw (← no-values refusal)
 
 pub no-slip : (answer : Answer) → ((slip : Slip) → answer ≡ Ok (Says slip) → ⊥) → replicate 6 0 ≡ six (told answer)
 unfolding told out_of slip_values account_row
@@ -72,18 +68,7 @@ no-slip (Ok Plain) other = refl
 no-slip (Ok (Opened opening)) other = refl
 no-slip (Ok (Holds account)) other = refl
 no-slip (Ok (Says slip)) other = absurd (other slip refl)
-no-slip (Err RoomUnfit) other = refl
-no-slip (Err DirectoryUnfit) other = refl
-no-slip (Err NoTicket) other = refl
-no-slip (Err AlreadyOpen) other = refl
-no-slip (Err NoOpeningLeft) other = refl
-no-slip (Err BadNumber) other = refl
-no-slip (Err (IllFormed place)) other = refl
-no-slip (Err (BadField number)) other = refl
-no-slip (Err JournalFull) other = refl
-no-slip (Err NothingToTakeBack) other = refl
-no-slip (Err NoSlip) other = refl
-no-slip (Err (NotTaken check)) other = refl
+no-slip (Err refusal) other = rw (← no-values refusal)
 
 -- no number is above 12
 pub number-low : (answer : Answer) → (told answer).number ≤ 12

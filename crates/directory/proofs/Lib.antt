@@ -1,5 +1,4 @@
 pub mod Finds
 pub mod Folds
 pub mod Gathers
-pub mod Turns
 pub mod Settled

@@ -10,10 +10,11 @@ use lib.Dec.{leb, ltb}
 use lib.ListN.{length, take, drop, get_or-eq_default}
 use borrow.Author.Tests.{leb-true, ltb-true, ltb-false}
 use Rattle.shape.specs.Bytes.{is_text}
-use Rattle.sheet.specs.Reader.{while}
+use Rattle.sheet.specs.Reader.{while, shown_at}
 use Rattle.outline.specs.Rows.{name_end, has_ccy, ccy_at, inside_at, has_text, text_at}
 use Rattle.outline.specs.Places.{text_end, parts_of, leaf_of}
 use Rattle.outline.specs.declared.Parts.{Parts}
+use Rattle.sheet.proofs.Parted.{part-there}
 use Rattle.sheet.proofs.While.{take_while, while-inside}
 
 -- the places of any element's parts stand in the sheet: those of its Ccy, where it has one, where its content begins, and where its text
@@ -116,14 +117,15 @@ module _ (s : List ℕ) (a : ℕ) (p : Parts) where
   there end false false true f g e h =
       let same : p ≡ whole_parts s a true = cc in
       let ends : end ≡ text_end s a = let both : Some end ≡ Some (text_end s a) = sym h ∙ ap (λ (x : Parts). x.text) same in cc in
+      let stand = stand-if s a p false false true f e in
       record {
         inside-sheet = rw same (omega (arith, ltb-false (length s) (inside_at s a) f, name-before s a));
         inside = rw same;
         ccy = rw same;
         shown = rw (same, ends) (text_of s a g);
-        ccy-within = rw same (λ c. omega (arith, ltb-false (length s) (inside_at s a) f, ccy-before s a c));
-        forward = rw (same, ends) (text-forward s a);
-        end-within = rw ends (text-within s a (ltb-false (length s) (inside_at s a) f));
+        ccy-within = stand.ccy-within;
+        forward = stand.forward end h;
+        end-within = stand.end-within end h;
       }
 
   -- an element that shows a text is whole
@@ -162,17 +164,18 @@ unfolding leaf_of
 leaf-missing s a e = rw e
 
 module _ {s : List ℕ} {a : ℕ} {p : Parts} {end : ℕ} (h : Shows s a p end) where
-  leaf-shown : (ccy : Option (List ℕ)) → ccy_at s a ≡ ccy
-      → Some (record { ccy = ccy; inside = p.inside; text = take (end - p.inside) (drop p.inside s) }) ≡ leaf_of s a
-  unfolding leaf_of
-  leaf-shown ccy e = rw (h.shown, ← h.inside, e)
+  -- the text, and the Ccy, as the reader shows them
+  text-as-shown : shown_at s p.inside (end - p.inside) ≡ take (end - p.inside) (drop p.inside s)
+  text-as-shown = part-there s p.inside (end - p.inside) (omega (arith, h.forward, h.end-within))
 
-  pub leaf-without-ccy : p.ccy ≡ false → Some (record { ccy = None; inside = p.inside; text = take (end - p.inside) (drop p.inside s) }) ≡ leaf_of s a
+  leaf-shown : (ccy : Option (List ℕ)) → ccy_at s a ≡ ccy
+      → Some (record { ccy = ccy; inside = p.inside; text = shown_at s p.inside (end - p.inside) }) ≡ leaf_of s a
+  unfolding leaf_of
+  leaf-shown ccy e = rw (text-as-shown, h.shown, ← h.inside, e)
+
+  pub leaf-without-ccy : p.ccy ≡ false → Some (record { ccy = None; inside = p.inside; text = shown_at s p.inside (end - p.inside) }) ≡ leaf_of s a
   leaf-without-ccy g = leaf-shown None (h.ccy ∙ rw g)
 
   pub leaf-with-ccy : p.ccy ≡ true
-      → Some (record { ccy = Some (take ((p.to + 9) - (p.to + 6)) (drop (p.to + 6) s)); inside = p.inside; text = take (end - p.inside) (drop p.inside s) })
-      ≡ leaf_of s a
-  leaf-with-ccy g =
-      let three : (p.to + 9) - (p.to + 6) ≡ 3 = omega arith in
-      rw three (leaf-shown (Some (take 3 (drop (p.to + 6) s))) (h.ccy ∙ rw g))
+      → Some (record { ccy = Some (shown_at s (p.to + 6) 3); inside = p.inside; text = shown_at s p.inside (end - p.inside) }) ≡ leaf_of s a
+  leaf-with-ccy g = leaf-shown (Some (shown_at s (p.to + 6) 3)) (h.ccy ∙ rw (g, part-there s (p.to + 6) 3 (omega (arith, h.ccy-within g))))

@@ -4,14 +4,14 @@
 use mathlib.Core.Path.{◌≡◌, refl, sym}
 use mathlib.Core.Bool.{Bool, true, false, ◌&&◌, ◌||◌, or_assoc, false≢true}
 use mathlib.Core.List.{List, [], ◌∷◌, ◌++◌}
-use Prim.Native.Nat.{ℕ, ◌<◌, ◌≤◌}
-use native.Mathlib.Omega.{arith}
+use Prim.Native.Nat.{ℕ, ◌<◌}
 use lib.Dec.{leb, eqb}
 use borrow.Author.Tests.{leb-true, eqb-true}
 use Rattle.shape.specs.Bytes.{every}
 use Rattle.shape.proofs.Tests.{and_left, and_right, or_cases}
 use Rattle.table.specs.Checks.{checks_most, is_in}
 use Rattle.table.proofs.Rules.{of_entry}
+use Rattle.table.proofs.Ranges.{none-past}
 use Rattle.slip.specs.declared.Form.TheVariants.{SixBytes}
 use Rattle.slip.specs.Meaning.{Saying, either_says, six_alone_says, sayings, says_in, measures}
 
@@ -51,21 +51,16 @@ unfolding sayings
 says_in_six kind status check = sym (says_both either_says six_alone_says kind status check)
 
 -- law: a table whose checks are all in the table of checks says nothing with a check past the last one
-none-past : (xs : List Saying) → every (of_saying (λ (k s c : ℕ). leb c checks_most)) xs ≡ true
+says-none-past : (xs : List Saying) → every (of_saying (λ (k s c : ℕ). leb c checks_most)) xs ≡ true
     → (kind status check : ℕ) → checks_most < check → says_in xs kind status check ≡ false
-none-past xs t kind status check h = go (says_in xs kind status check) refl
-  where
-    go : (b : Bool) → says_in xs kind status check ≡ b → b ≡ false
-    go true e = absurd (past (leb-true check checks_most (of-sayings (λ (k s c : ℕ). leb c checks_most) xs t kind status check e)))
-      where
-        past : check ≤ checks_most → ⊥
-        past l = omega arith
-    go false e = refl
+says-none-past xs t kind status check =
+    none-past (says_in xs kind status check) check
+    (λ e. leb-true check checks_most (of-sayings (λ (k s c : ℕ). leb c checks_most) xs t kind status check e))
 
 pub either-none-past : (kind status check : ℕ) → checks_most < check → says_in either_says kind status check ≡ false
 unfolding either_says
-either-none-past = none-past either_says refl
+either-none-past = says-none-past either_says refl
 
 pub six-alone-none-past : (kind status check : ℕ) → checks_most < check → says_in six_alone_says kind status check ≡ false
 unfolding six_alone_says
-six-alone-none-past = none-past six_alone_says refl
+six-alone-none-past = says-none-past six_alone_says refl

@@ -50,14 +50,15 @@ pub rejecting-ranges : (n : ℕ) → n ≤ checks_most → is_in n rejecting ≡
 rejecting-ranges =
     alike-to checks_most (λ (x : ℕ). is_in x rejecting) (λ (x : ℕ). leb 20 x && leb x 24 || eqb x 36 || eqb x 37) refl
 
--- what no kind has, and no transfer is rejected by
-none-past : (t : Bool) (n : ℕ) → (t ≡ true → n ≤ checks_most) → checks_most < n → t ≡ false
+-- law: a test that holds of the table's numbers alone fails past the last one
+pub none-past : (t : Bool) (n : ℕ) → (t ≡ true → n ≤ checks_most) → checks_most < n → t ≡ false
 none-past true n f h = absurd (past (f refl))
   where
     past : n ≤ checks_most → ⊥
     past l = omega arith
 none-past false n f h = refl
 
+-- so no kind has such a check, and no transfer is rejected by one
 pub none_above : (kind : Kind) (n : ℕ) → checks_most < n → runs kind n ≡ false
 none_above kind n = none-past (runs kind n) n (λ e. (runs-in-table kind n e).1)
 

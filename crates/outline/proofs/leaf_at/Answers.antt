@@ -1,6 +1,5 @@
 -- By the places of the element's parts, which stand in the sheet where it holds a text.
-use Rattle.std.proofs.Common.{arith, ◌≡◌, ◌+◌, ◌-◌}
-use Rattle.sheet.proofs.Parted.{part-there}
+use Rattle.std.proofs.Common.{arith}
 use Rattle.outline.proofs.Shown.{Shows, text-there, text-missing, parts-missing, leaf-missing, leaf-without-ccy, leaf-with-ccy}
 use Rattle.outline.proofs.leaf_at.Goals.{In_ok-end}
 use Rattle.outline.proofs.leaf_at.Goals as goal
@@ -28,26 +27,10 @@ overflow_add-parts c =
 
 pub returns-then-parts : goal.returns-then-parts
 returns-then-parts c =
-    let s = c.args.s.now in
-    let p = c.in_ok-parts.parts in
-    let end = c.in_ok-end.end in
-    let shows = text-there s c.args.start p end c.in_ok-parts.ensures c.in_ok-end.was in
-    let ccy = shows.ccy-within c.if-parts.true in
-    let shown = leaf-with-ccy {s = s} {a = c.args.start} {p = p} {end = end} shows c.if-parts.true in
-    let three : (p.to + 9) - (p.to + 6) ≡ 3 = omega arith in
-    rw (
-      c.shown_at.ensures,
-      c.shown_at-text.ensures,
-      part-there s (p.to + 6) 3 (omega (arith, ccy)),
-      part-there s p.inside (end - p.inside) (omega (arith, shows.forward, shows.end-within)),
-    )
-    (rw three at shown)
+    rw (c.shown_at.ensures, c.shown_at-text.ensures)
+    (leaf-with-ccy (text-there c.args.s.now c.args.start c.in_ok-parts.parts c.in_ok-end.end c.in_ok-parts.ensures c.in_ok-end.was) c.if-parts.true)
 
 pub returns : goal.returns
 returns c =
-    let s = c.args.s.now in
-    let p = c.in_ok-parts.parts in
-    let end = c.in_ok-end.end in
-    let shows = text-there s c.args.start p end c.in_ok-parts.ensures c.in_ok-end.was in
-    rw (c.shown_at-text.ensures, part-there s p.inside (end - p.inside) (omega (arith, shows.forward, shows.end-within)))
-    (leaf-without-ccy shows c.if-parts.false)
+    rw c.shown_at-text.ensures
+    (leaf-without-ccy (text-there c.args.s.now c.args.start c.in_ok-parts.parts c.in_ok-end.end c.in_ok-parts.ensures c.in_ok-end.was) c.if-parts.false)
